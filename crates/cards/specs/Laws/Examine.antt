@@ -1,0 +1,307 @@
+-- The examiner is right: what it computes is the standing that document 01 gives the card, and no other standing is the card's.
+-- In good standing every mark is the empty-word test of its record's pattern.
+use Prim.Native.Nat.{ℕ, zero, suc, _+_, _/_, _%_, _<_, _≤_}
+use native.Mathlib.Decide.{decLt}
+use native.Mathlib.Omega.{arith}
+use mathlib.Core.Bool.{Bool, true, false, not, _&&_, _||_, false≢true}
+use mathlib.Core.List.{List, []}
+use mathlib.Core.Path.{_≡_, refl, sym, _∙_, ap, subst}
+use lib.Dec.{eqb, ltb}
+use lib.ListN.{length, drop, drop-of-length-le}
+use lib.Seq.{drop-cons}
+use borrow.Author.Tests.{eqb-true, eqb-false, eq-eqb, ne-eqb, ltb-true, ltb-false, lt-ltb, le-ltb}
+use Rattle.language.specs.Language.{Pattern, language}
+use Rattle.language.specs.Laws.Derivative.{Tells, nullable, nullable-right}
+use Rattle.cards.specs.declared.record.Record.{Record}
+use Rattle.cards.specs.declared.examine.Standing.{Standing}
+use Rattle.cards.specs.declared.examine.Standing.the-variants.{Good, Refused}
+use Rattle.cards.specs.Record.{records, child, no-record}
+use Rattle.cards.specs.Kind.{kind-of}
+use Rattle.cards.specs.Mark.{bit, marked, has-empty}
+use Rattle.cards.specs.Examine.{_then_, wrong-length, obeys-line, obeys, mark-right, record-standing, records-standing, examined}
+use Rattle.cards.specs.Meaning.{operator, patterns, numbered}
+use Rattle.cards.specs.Standing.{RightLength, Line, nothing, empty-word, letter, choice, sequence, repeat, Obeys, TrueMark, one, zero as no-mark, MarkRight, Right, Stands, by-1, by-2, by-3, in-good-standing}
+use Rattle.cards.specs.Laws.Record.{length-records}
+use Rattle.cards.specs.Laws.Meaning.{pattern-of-record}
+
+-- Tests joined by "and".
+
+and-left : (a b : Bool) → a && b ≡ true → a ≡ true
+and-left true b e = refl
+and-left false b e = e
+
+and-right : (a b : Bool) → a && b ≡ true → b ≡ true
+and-right true b e = e
+and-right false b e = absurd (false≢true e)
+
+both : {a b : Bool} → a ≡ true → b ≡ true → a && b ≡ true
+both e f = rw (e, f)
+
+-- Number 1.
+
+right-length : (most size : ℕ) → wrong-length most size ≡ false → RightLength most size
+right-length most size e = go (eqb size 0) refl (eqb (size % 8) 0) refl (ltb most (size / 8)) refl e
+  where
+    go : (a : Bool) → eqb size 0 ≡ a → (b : Bool) → eqb (size % 8) 0 ≡ b → (c : Bool) → ltb most (size / 8) ≡ c → a || not b || c ≡ false → RightLength most size
+    go true _ b _ c _ f = absurd (false≢true (sym f))
+    go false _ false _ c _ f = absurd (false≢true (sym f))
+    go false _ true _ true _ f = absurd (false≢true (sym f))
+    go false p true q false r f =
+        let n = eqb-false size 0 p in
+        let w = eqb-true (size % 8) 0 q in
+        let s = ltb-false most (size / 8) r in
+        record { some = omega arith; whole = w; not-long = omega arith }
+
+not-right-length : (most size : ℕ) → RightLength most size → wrong-length most size ≡ false
+not-right-length most size h =
+    let n : size ≡ 0 → ⊥ = λ e. omega arith in
+    let s : size / 8 ≤ most = omega arith in
+    rw (ne-eqb size 0 n, eq-eqb (size % 8) 0 (h .whole), le-ltb most (size / 8) s) refl
+
+-- Number 2.
+
+-- A field is 0, or below a number, by its test.
+module _ (l a b n : ℕ) where
+  three : (t u v : Bool) → t && u && v ≡ true → (t ≡ true) × (u ≡ true) × (v ≡ true)
+  three t u v e = (and-left t u (and-left (t && u) v e), and-right t u (and-left (t && u) v e), and-right (t && u) v e)
+
+  no-child : eqb l 0 && eqb a 0 && eqb b 0 ≡ true → (l ≡ 0) × (a ≡ 0) × (b ≡ 0)
+  no-child e = let t = three (eqb l 0) (eqb a 0) (eqb b 0) e in (eqb-true l 0 (t .0), eqb-true a 0 (t .1), eqb-true b 0 (t .2))
+
+  one-child : eqb l 0 && ltb a n && eqb b 0 ≡ true → (l ≡ 0) × (a < n) × (b ≡ 0)
+  one-child e = let t = three (eqb l 0) (ltb a n) (eqb b 0) e in (eqb-true l 0 (t .0), ltb-true a n (t .1), eqb-true b 0 (t .2))
+
+  two-children : eqb l 0 && ltb a n && ltb b n ≡ true → (l ≡ 0) × (a < n) × (b < n)
+  two-children e = let t = three (eqb l 0) (ltb a n) (ltb b n) e in (eqb-true l 0 (t .0), ltb-true a n (t .1), ltb-true b n (t .2))
+
+line-sound : (at : ℕ) (r : Record) (k : ℕ) → r .kind ≡ k → obeys-line (kind-of k) at r ≡ true → Line at r
+line-sound at r zero e t = let z = no-child (r .letter) (r .left) (r .right) at t in nothing e (z .0) (z .1) (z .2)
+line-sound at r (suc zero) e t = let z = no-child (r .letter) (r .left) (r .right) at t in empty-word e (z .0) (z .1) (z .2)
+line-sound at r (suc (suc zero)) e t =
+    letter e
+    (eqb-true (r .left) 0 (and-left (eqb (r .left) 0) (eqb (r .right) 0) t))
+    (eqb-true (r .right) 0 (and-right (eqb (r .left) 0) (eqb (r .right) 0) t))
+line-sound at r (suc (suc (suc zero))) e t = let z = two-children (r .letter) (r .left) (r .right) at t in choice e (z .0) (z .1) (z .2)
+line-sound at r (suc (suc (suc (suc zero)))) e t = let z = two-children (r .letter) (r .left) (r .right) at t in sequence e (z .0) (z .1) (z .2)
+line-sound at r (suc (suc (suc (suc (suc zero))))) e t = let z = one-child (r .letter) (r .left) (r .right) at t in repeat e (z .0) (z .1) (z .2)
+line-sound at r (suc (suc (suc (suc (suc (suc k)))))) e t = absurd (false≢true t)
+
+line-complete : (at : ℕ) (r : Record) → Line at r → obeys-line (kind-of (r .kind)) at r ≡ true
+line-complete at r (nothing k a b c) = rw k (both (both (eq-eqb _ _ a) (eq-eqb _ _ b)) (eq-eqb _ _ c))
+line-complete at r (empty-word k a b c) = rw k (both (both (eq-eqb _ _ a) (eq-eqb _ _ b)) (eq-eqb _ _ c))
+line-complete at r (letter k a b) = rw k (both (eq-eqb _ _ a) (eq-eqb _ _ b))
+line-complete at r (choice k a b c) = rw k (both (both (eq-eqb _ _ a) (lt-ltb _ _ b)) (lt-ltb _ _ c))
+line-complete at r (sequence k a b c) = rw k (both (both (eq-eqb _ _ a) (lt-ltb _ _ b)) (lt-ltb _ _ c))
+line-complete at r (repeat k a b c) = rw k (both (both (eq-eqb _ _ a) (lt-ltb _ _ b)) (eq-eqb _ _ c))
+
+pub obeys-right : (at : ℕ) (r : Record) → Tells (obeys at r) (Obeys at r)
+obeys-right at r =
+    let fourth = eqb (r .fourth) 0 in
+    let line = obeys-line (kind-of (r .kind)) at r in
+    record {
+      sound = λ t.
+          record {
+            fourth = eqb-true (r .fourth) 0 (and-left fourth line t);
+            line = line-sound at r (r .kind) refl (and-right fourth line t);
+          };
+      complete = λ h. both (eq-eqb (r .fourth) 0 (h .fourth)) (line-complete at r (h .line));
+    }
+
+-- Number 3.
+
+-- A mark that is the empty-word test's answer tells the truth, and no other does.
+pub mark-of-test : (p : Pattern) (m : ℕ) → m ≡ bit (nullable p) → TrueMark m (language p [])
+mark-of-test p m e = go (nullable p) refl e
+  where
+    go : (b : Bool) → nullable p ≡ b → m ≡ bit b → TrueMark m (language p [])
+    go true t f = one f (nullable-right p .sound t)
+    go false t f = no-mark f (λ h. false≢true (sym t ∙ nullable-right p .complete h))
+
+pub test-of-mark : (p : Pattern) (m : ℕ) → TrueMark m (language p []) → m ≡ bit (nullable p)
+test-of-mark p m (one e h) = rw (nullable-right p .complete h) e
+test-of-mark p m (no-mark e h) = go (nullable p) refl
+  where
+    go : (b : Bool) → nullable p ≡ b → m ≡ bit b
+    go true t = absurd (h (nullable-right p .sound t))
+    go false t = e
+
+marked-bit : (r : Record) (b : Bool) → r .mark ≡ bit b → marked r ≡ b
+marked-bit r true e = rw e
+marked-bit r false e = rw e
+
+-- In a card in which the records before are right, the mark that a record has to have is the empty-word test of its pattern.
+module _ (rs : List Record) (at : ℕ) (l : at < length rs) (before : (i : ℕ) → i < at → Right rs i) where
+  child-marked : (i : ℕ) → i < at → marked (child rs i) ≡ nullable (numbered (patterns rs) i)
+  child-marked i m = marked-bit (child rs i) _ (test-of-mark (numbered (patterns rs) i) (child rs i .mark) (before i m .mark))
+
+  has-empty-right : Line at (child rs at)
+      → has-empty (kind-of (child rs at .kind)) (marked (child rs (child rs at .left))) (marked (child rs (child rs at .right)))
+      ≡ nullable (numbered (patterns rs) at)
+  unfolding nullable
+  has-empty-right o = rw (pattern-of-record rs at l o) (go o)
+    where
+      go : Line at (child rs at)
+          → has-empty (kind-of (child rs at .kind)) (marked (child rs (child rs at .left))) (marked (child rs (child rs at .right)))
+          ≡ nullable (operator (kind-of (child rs at .kind)) (child rs at .letter) (numbered (patterns rs) (child rs at .left)) (numbered (patterns rs) (child rs at .right)))
+      go (nothing k _ _ _) = rw k
+      go (empty-word k _ _ _) = rw k
+      go (letter k _ _) = rw k
+      go (choice k _ m n) = rw (k, child-marked _ m, child-marked _ n)
+      go (sequence k _ m n) = rw (k, child-marked _ m, child-marked _ n)
+      go (repeat k _ m _) = rw k
+
+  mark-right-tells : Line at (child rs at) → Tells (mark-right rs (child rs at)) (MarkRight rs at)
+  mark-right-tells o =
+      let e = has-empty-right o in
+      record {
+        sound = λ t. mark-of-test _ _ (eqb-true _ _ t ∙ ap bit e);
+        complete = λ h. eq-eqb _ _ (test-of-mark _ _ h ∙ ap bit (sym e));
+      }
+
+-- Record by record.
+
+-- What the definition says of the records from `at` on.
+unfoldable pub standing-from : List ℕ → ℕ → Standing
+unfolding records-standing
+standing-from card at = records-standing (records card) at (drop at (records card))
+
+pub standing-step : (card : List ℕ) (at : ℕ) → at < length card / 8
+    → standing-from card at ≡ record-standing (records card) at (child (records card) at) then standing-from card (suc at)
+unfolding standing-from records-standing
+standing-step card at l =
+    let within : at < length (records card) = omega (arith, length-records card) in
+    rw (drop-cons (records card) at no-record within)
+
+pub standing-end : (card : List ℕ) (at : ℕ) → length card / 8 ≤ at → standing-from card at ≡ Good
+unfolding standing-from records-standing
+standing-end card at l = rw (drop-of-length-le (records card) {i = at} (omega (arith, length-records card)))
+
+pub standing-start : (most : ℕ) (card : List ℕ) → wrong-length most (length card) ≡ false → examined most card ≡ standing-from card 0
+unfolding examined standing-from
+standing-start most card e = rw e
+
+pub standing-1 : (most : ℕ) (card : List ℕ) → wrong-length most (length card) ≡ true → examined most card ≡ Refused 1
+unfolding examined
+standing-1 most card e = rw e
+
+-- What the two tests of a record say.
+data Found (rs : List Record) (at : ℕ) : Standing → Type 0 where
+  breaks : (Obeys at (child rs at) → ⊥) → Found rs at (Refused 2)
+  wrong-mark : Obeys at (child rs at) → (MarkRight rs at → ⊥) → Found rs at (Refused 3)
+  is-right : Right rs at → Found rs at Good
+
+found : (rs : List Record) (at : ℕ) → at < length rs → ((i : ℕ) → i < at → Right rs i) → Found rs at (record-standing rs at (child rs at))
+found rs at l before = go (obeys at (child rs at)) refl (mark-right rs (child rs at)) refl
+  where
+    o : Tells (obeys at (child rs at)) (Obeys at (child rs at))
+    o = obeys-right at (child rs at)
+
+    go : (a : Bool) → obeys at (child rs at) ≡ a → (b : Bool) → mark-right rs (child rs at) ≡ b → Found rs at (record-standing rs at (child rs at))
+    go false e b f = rw e (breaks (λ h. false≢true (sym e ∙ o .complete h)))
+    go true e false f =
+        rw (e, f)
+        (wrong-mark (o .sound e)
+        (λ h. false≢true (sym f ∙ mark-right-tells rs at l before (o .sound e .line) .complete h)))
+    go true e true f =
+        rw (e, f)
+        (is-right (record { obeys = o .sound e; mark = mark-right-tells rs at l before (o .sound e .line) .sound f }))
+
+refused-not-good : {number : ℕ} → Refused number ≡ Good → ⊥
+refused-not-good e = let z : _≡_ {A = ℕ} 0 1 = cc in omega arith
+
+-- A record is found in one way.
+found-one : {rs : List Record} {at : ℕ} {s t : Standing} → Found rs at s → Found rs at t → s ≡ t
+found-one (breaks o) (breaks _) = refl
+found-one (breaks o) (wrong-mark p _) = absurd (o p)
+found-one (breaks o) (is-right r) = absurd (o (r .obeys))
+found-one (wrong-mark p _) (breaks o) = absurd (o p)
+found-one (wrong-mark _ m) (wrong-mark _ _) = refl
+found-one (wrong-mark _ m) (is-right r) = absurd (m (r .mark))
+found-one (is-right r) (breaks o) = absurd (o (r .obeys))
+found-one (is-right r) (wrong-mark _ m) = absurd (m (r .mark))
+found-one (is-right r) (is-right _) = refl
+
+one-more-right : {P : ℕ → Type 0} (at : ℕ) → ((i : ℕ) → i < at → P i) → P at → (i : ℕ) → i < suc at → P i
+one-more-right {P} at before r i l = go (decLt i at)
+  where
+    go : Dec (i < at) → P i
+    go (yes m) = before i m
+    go (no m) = let e : at ≡ i = omega arith in subst P e r
+
+module _ (most : ℕ) (card : List ℕ) where
+  settled : RightLength most (length card) → (at : ℕ) → at < length card / 8 → ((i : ℕ) → i < at → Right (records card) i)
+      → {s : Standing} → Found (records card) at s
+      → (Right (records card) at → Stands most card (standing-from card (suc at)))
+      → Stands most card (s then standing-from card (suc at))
+  settled h at l before (breaks o) rest = by-2 h at l before o
+  settled h at l before (wrong-mark o m) rest = by-3 h at l before o m
+  settled h at l before (is-right r) rest = rest r
+
+  from-on : RightLength most (length card) → (left at : ℕ) → at + left ≡ length card / 8 → ((i : ℕ) → i < at → Right (records card) i)
+      → Stands most card (standing-from card at)
+  from-on h zero at e before = rw (standing-end card at (omega arith)) (in-good-standing h (λ i l. before i (omega arith)))
+  from-on h (suc left) at e before =
+      let l : at < length card / 8 = omega arith in
+      rw (standing-step card at l)
+      (settled h at l before
+      (found (records card) at (omega (arith, length-records card)) before)
+      (λ r. from-on h left (suc at) (omega arith) (one-more-right at before r)))
+
+  -- What the definition computes is the standing that document 01 gives the card ..
+  pub examined-right : Stands most card (examined most card)
+  examined-right = first (wrong-length most (length card)) refl
+    where
+      first : (b : Bool) → wrong-length most (length card) ≡ b → Stands most card (examined most card)
+      first true e = rw (standing-1 most card e) (by-1 (λ h. false≢true (sym (not-right-length most (length card) h) ∙ e)))
+      first false e =
+          rw (standing-start most card e)
+          (from-on (right-length most (length card) e) (length card / 8) 0 (omega arith) (λ i l. absurd (omega arith)))
+
+  passed : (at : ℕ) → at ≤ length card / 8 → ((i : ℕ) → i < at → Right (records card) i) → standing-from card 0 ≡ standing-from card at
+  passed zero l before = refl
+  passed (suc at) l before =
+      let earlier : (i : ℕ) → i < at → Right (records card) i = λ i m. before i (omega arith) in
+      let here = found-one (is-right (before at (omega arith))) (found (records card) at (omega (arith, length-records card)) earlier) in
+      passed at (omega arith) earlier
+      ∙ standing-step card at (omega arith)
+      ∙ ap (λ (s : Standing). s then standing-from card (suc at)) (sym here)
+
+  stopped : (at : ℕ) → at < length card / 8 → ((i : ℕ) → i < at → Right (records card) i) → {number : ℕ} → Found (records card) at (Refused number)
+      → RightLength most (length card) → Refused number ≡ examined most card
+  stopped at l before f h =
+      let here = found-one f (found (records card) at (omega (arith, length-records card)) before) in
+      sym
+      (standing-start most card (not-right-length most (length card) h)
+      ∙ passed at (omega arith) before
+      ∙ standing-step card at l
+      ∙ ap (λ (s : Standing). s then standing-from card (suc at)) (sym here))
+
+  -- .. and no other standing is the card's.
+  pub examined-only : {s : Standing} → Stands most card s → s ≡ examined most card
+  examined-only (by-1 n) = sym (standing-1 most card (wrong (wrong-length most (length card)) refl))
+    where
+      wrong : (b : Bool) → wrong-length most (length card) ≡ b → wrong-length most (length card) ≡ true
+      wrong true e = e
+      wrong false e = absurd (n (right-length most (length card) e))
+  examined-only (by-2 h at l before o) = stopped at l before (breaks o) h
+  examined-only (by-3 h at l before o m) = stopped at l before (wrong-mark o m) h
+  examined-only (in-good-standing h all) =
+      sym
+      (standing-start most card (not-right-length most (length card) h)
+      ∙ passed (length card / 8) (omega arith) all
+      ∙ standing-end card (length card / 8) (omega arith))
+
+  -- In good standing every record is right ..
+  pub good-right : examined most card ≡ Good → (at : ℕ) → at < length card / 8 → Right (records card) at
+  good-right e = go e examined-right
+    where
+      go : {s : Standing} → s ≡ Good → Stands most card s → (at : ℕ) → at < length card / 8 → Right (records card) at
+      go e (by-1 n) = λ at l. absurd (refused-not-good e)
+      go e (by-2 h at l before o) = λ at l. absurd (refused-not-good e)
+      go e (by-3 h at l before o m) = λ at l. absurd (refused-not-good e)
+      go e (in-good-standing h all) = all
+
+  -- .. and every mark is the empty-word test of the record's pattern.
+  pub good-mark : examined most card ≡ Good → (at : ℕ) → at < length card / 8
+      → child (records card) at .mark ≡ bit (nullable (numbered (patterns (records card)) at))
+  good-mark e at l = test-of-mark _ _ (good-right e at l .mark)

@@ -1,0 +1,135 @@
+-- Records and their bytes: a record laid down and read back is the same record, one record has one text of 8 bytes, and the
+-- records of a run stand at 8 bytes each.
+use Prim.Native.Nat.{ℕ, zero, suc, _+_, _*_, _/_, _%_, _<_, _≤_}
+use native.Mathlib.Omega.{arith}
+use mathlib.Core.List.{List, [], _∷_, _++_, append-nil}
+use mathlib.Core.Path.{_≡_, refl, sym, _∙_, ap, ap₂, subst}
+use lib.ListN.{length, getD, take, drop, length-drop, take-append-drop, List·getD-eq-default}
+use lib.Seq.{ext-getD, drop-drop, getD-take, take-all, length-take-le}
+use Rattle.language.specs.Word.{none, one, Bytes}
+use Rattle.cards.specs.declared.record.Record.{Record}
+use Rattle.cards.specs.Record.{record-of, bytes-of, record-at, first-records, records, no-record, child, run-of}
+
+-- Two bytes of a number, low byte first.
+
+two-bytes : (n : ℕ) → n % 256 + 256 * (n / 256) ≡ n
+two-bytes n = omega arith
+
+low-byte : (a b : ℕ) → a < 256 → (a + 256 * b) % 256 ≡ a
+low-byte a b l = omega arith
+
+high-byte : (a b : ℕ) → a < 256 → (a + 256 * b) / 256 ≡ b
+high-byte a b l = omega arith
+
+-- A record laid down and read back is the same record, whatever stands behind it.
+pub read-back : (r : Record) (rest : List ℕ) → record-of (bytes-of r ++ rest) ≡ r
+read-back r rest =
+    λ i. record {
+      kind = r .kind;
+      letter = r .letter;
+      mark = r .mark;
+      fourth = r .fourth;
+      left = two-bytes (r .left) i;
+      right = two-bytes (r .right) i;
+    }
+
+-- What holds of each number below 8 holds of all.
+below-eight : (P : ℕ → Type 0) → P 0 → P 1 → P 2 → P 3 → P 4 → P 5 → P 6 → P 7 → (i : ℕ) → i < 8 → P i
+below-eight P a b c d e f g h zero l = a
+below-eight P a b c d e f g h (suc zero) l = b
+below-eight P a b c d e f g h (suc (suc zero)) l = c
+below-eight P a b c d e f g h (suc (suc (suc zero))) l = d
+below-eight P a b c d e f g h (suc (suc (suc (suc zero)))) l = e
+below-eight P a b c d e f g h (suc (suc (suc (suc (suc zero))))) l = f
+below-eight P a b c d e f g h (suc (suc (suc (suc (suc (suc zero)))))) l = g
+below-eight P a b c d e f g h (suc (suc (suc (suc (suc (suc (suc zero))))))) l = h
+below-eight P a b c d e f g h (suc (suc (suc (suc (suc (suc (suc (suc n)))))))) l = absurd (omega arith)
+
+-- A number of a list of bytes is a byte.
+pub byte-at : {s : List ℕ} → Bytes s → (i : ℕ) → getD s i 0 < 256
+byte-at none i = omega arith
+byte-at (one b o) zero = b
+byte-at (one b o) (suc i) = byte-at o i
+
+-- The text of a record is the 8 bytes that it was read from: one record has one text.
+first-text : (s : List ℕ) → 8 ≤ length s → Bytes s → bytes-of (record-of s) ≡ take 8 s
+first-text s n b =
+    ext-getD 0 (bytes-of (record-of s)) (take 8 s) (sym (length-take-le 8 s n))
+    (below-eight (λ (i : ℕ). getD (bytes-of (record-of s)) i 0 ≡ getD (take 8 s) i 0)
+    (as-taken 0 (omega arith) refl)
+    (as-taken 1 (omega arith) refl)
+    (as-taken 2 (omega arith) refl)
+    (as-taken 3 (omega arith) refl)
+    (as-taken 4 (omega arith) (low-byte (getD s 4 0) (getD s 5 0) (byte-at b 4)))
+    (as-taken 5 (omega arith) (high-byte (getD s 4 0) (getD s 5 0) (byte-at b 4)))
+    (as-taken 6 (omega arith) (low-byte (getD s 6 0) (getD s 7 0) (byte-at b 6)))
+    (as-taken 7 (omega arith) (high-byte (getD s 6 0) (getD s 7 0) (byte-at b 6))))
+  where
+    as-taken : (i : ℕ) → i < 8 → getD (bytes-of (record-of s)) i 0 ≡ getD s i 0 → getD (bytes-of (record-of s)) i 0 ≡ getD (take 8 s) i 0
+    as-taken i l e = e ∙ sym (getD-take 8 s i 0 l)
+
+pub one-text : (s : List ℕ) → length s ≡ 8 → Bytes s → bytes-of (record-of s) ≡ s
+one-text s n b = first-text s (omega arith) b ∙ take-all 8 s (omega arith)
+
+-- A run of records is 8 bytes for each.
+
+pub length-run : (rs : List Record) → length (run-of rs) ≡ 8 * length rs
+unfolding run-of
+length-run [] = refl
+length-run (r ∷ rs) = let ih = length-run rs in omega arith
+
+-- The records of a run, whatever stands behind it.
+pub first-of-run : (rs : List Record) (rest : List ℕ) → first-records (length rs) (run-of rs ++ rest) ≡ rs
+unfolding first-records run-of
+first-of-run [] rest = refl
+first-of-run (r ∷ rs) rest = ap₂ _∷_ (read-back r (run-of rs ++ rest)) (first-of-run rs rest)
+
+pub records-of-run : (rs : List Record) → records (run-of rs) ≡ rs
+unfolding records
+records-of-run rs =
+    let n : length (run-of rs) / 8 ≡ length rs = omega (arith, length-run rs) in
+    rw n (subst (λ (s : List ℕ). first-records (length rs) s ≡ rs) (append-nil (run-of rs)) (first-of-run rs []))
+
+-- And a run of whole records has one text.
+pub bytes-drop : (n : ℕ) {s : List ℕ} → Bytes s → Bytes (drop n s)
+bytes-drop zero b = b
+bytes-drop (suc n) none = none
+bytes-drop (suc n) (one _ o) = bytes-drop n o
+
+pub run-of-first : (n : ℕ) (s : List ℕ) → length s ≡ 8 * n → Bytes s → run-of (first-records n s) ≡ s
+unfolding first-records run-of
+run-of-first zero [] e b = refl
+run-of-first zero (c ∷ s) e b = absurd (omega arith)
+run-of-first (suc n) s e b =
+    ap₂ _++_
+    (first-text s (omega arith) b)
+    (run-of-first n (drop 8 s) (length-drop 8 s ∙ omega arith) (bytes-drop 8 b))
+    ∙ take-append-drop 8 s
+
+-- The record numbered `at` of a list of records is the record at its place in the run.
+
+pub length-first : (n : ℕ) (s : List ℕ) → length (first-records n s) ≡ n
+unfolding first-records
+length-first zero s = refl
+length-first (suc n) s = ap suc (length-first n (drop 8 s))
+
+pub first-at : (n : ℕ) (s : List ℕ) (at : ℕ) → at < n → child (first-records n s) at ≡ record-at s at
+unfolding first-records
+first-at zero s at l = absurd (omega arith)
+first-at (suc n) s zero l = refl
+first-at (suc n) s (suc at) l =
+    let e : 8 + 8 * at ≡ 8 * suc at = omega arith in
+    first-at n (drop 8 s) at (omega arith)
+    ∙ ap record-of (drop-drop (8 * at) 8 s)
+    ∙ ap (λ (k : ℕ). record-of (drop k s)) e
+
+pub record-at-place : (card : List ℕ) (at : ℕ) → at < length card / 8 → child (records card) at ≡ record-at card at
+unfolding records
+record-at-place card at l = first-at (length card / 8) card at l
+
+pub length-records : (card : List ℕ) → length (records card) ≡ length card / 8
+unfolding records
+length-records card = length-first (length card / 8) card
+
+pub past-records : (card : List ℕ) (at : ℕ) → length card / 8 ≤ at → child (records card) at ≡ no-record
+past-records card at l = List·getD-eq-default (records card) no-record {n = at} (omega (arith, length-records card))

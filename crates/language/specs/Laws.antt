@@ -1,0 +1,9 @@
+-- What is proved of the definitions: nothing here has to be believed, each file is checked.
+pub mod Words
+pub mod Equality
+pub mod Quotient
+pub mod Derivative
+pub mod Atoms
+pub mod Tables
+pub mod Order
+pub mod StandIn

@@ -1,0 +1,20 @@
+-- Words whose letters P names: their parts, and a larger P.
+use Prim.Native.Nat.{ℕ}
+use mathlib.Core.List.{[], _∷_, _++_}
+use Rattle.language.specs.Word.{Word, Over, none, one}
+
+pub front-over : {P : ℕ → Type 0} (x y : Word) → Over P (x ++ y) → Over P x
+front-over [] y h = none
+front-over (c ∷ x) y (one b h) = one b (front-over x y h)
+
+pub back-over : {P : ℕ → Type 0} (x y : Word) → Over P (x ++ y) → Over P y
+back-over [] y h = h
+back-over (c ∷ x) y (one b h) = back-over x y h
+
+pub over-join : {P : ℕ → Type 0} {x y : Word} → Over P x → Over P y → Over P (x ++ y)
+over-join none k = k
+over-join (one b h) k = one b (over-join h k)
+
+pub over-wider : {P Q : ℕ → Type 0} → ((c : ℕ) → P c → Q c) → {w : Word} → Over P w → Over Q w
+over-wider f none = none
+over-wider f (one {c} b h) = one (f c b) (over-wider f h)

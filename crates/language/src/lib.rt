@@ -1,0 +1,1 @@
+// Definitions and laws alone: see specs/. There is no code here.
