@@ -1,12 +1,13 @@
 -- The pattern that a card means: each record's from its children's, and the last record is the root.
 -- Document 01: "Several records may name the same child": such a child's pattern counts at each of them.
 use Prim.Native.Nat.{ℕ, _-_}
-use mathlib.Core.List.{List, [], _∷_, _++_}
+use mathlib.Core.List.{List}
 use lib.ListN.{length, getD}
 use Rattle.language.specs.Language.{Pattern, nothing, empty-word, letter, choice, sequence, repeat}
 use Rattle.cards.specs.declared.kind.Kind.{Kind}
 use Rattle.cards.specs.declared.kind.Kind.the-variants.{Nothing, EmptyWord, Letter, Choice, Sequence, Repeat, Unknown}
 use Rattle.cards.specs.declared.record.Record.{Record}
+use Rattle.cards.specs.InOrder.{in-order}
 use Rattle.cards.specs.Record.{records}
 use Rattle.cards.specs.Kind.{kind-of}
 
@@ -29,17 +30,11 @@ abbrev pub record-pattern : List Pattern → Record → Pattern
 record-pattern before r =
     operator (kind-of (r .kind)) (r .letter) (numbered before (r .left)) (numbered before (r .right))
 
--- The patterns of the records before, and then of these, in order.
-unfoldable pub patterns-after : List Pattern → List Record → List Pattern
-patterns-after before [] = before
-patterns-after before (r ∷ rest) = patterns-after (before ++ record-pattern before r ∷ []) rest
-
 -- The patterns of a list of records.
-unfoldable pub patterns : List Record → List Pattern
-unfolding patterns-after
-patterns rs = patterns-after [] rs
+abbrev pub patterns : List Record → List Pattern
+patterns rs = in-order record-pattern rs
 
 -- The pattern that a card means.
 unfoldable pub card-pattern : List ℕ → Pattern
-unfolding patterns records
+unfolding in-order records
 card-pattern card = numbered (patterns (records card)) (length (records card) - 1)

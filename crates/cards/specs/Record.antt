@@ -24,6 +24,10 @@ abbrev pub bytes-of : Record → List ℕ
 bytes-of r =
     r .kind ∷ r .letter ∷ r .mark ∷ r .fourth ∷ r .left % 256 ∷ r .left / 256 ∷ r .right % 256 ∷ r .right / 256 ∷ []
 
+-- The 8 bytes of a record as one number, the first byte lowest.
+abbrev pub number-of : Record → ℕ
+number-of r = r .kind + 256 * (r .letter + 256 * (r .mark + 256 * (r .fourth + 256 * (r .left + 65536 * r .right))))
+
 -- The record numbered `at` of a run of records.
 abbrev pub record-at : List ℕ → ℕ → Record
 record-at s at = record-of (drop (8 * at) s)

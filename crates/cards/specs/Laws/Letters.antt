@@ -18,7 +18,8 @@ use Rattle.cards.specs.declared.kind.Kind.the-variants.{Nothing, EmptyWo
 use Rattle.cards.specs.declared.record.Record.{Record}
 use Rattle.cards.specs.Record.{records, child}
 use Rattle.cards.specs.Kind.{kind-of}
-use Rattle.cards.specs.Meaning.{operator, numbered, record-pattern, patterns-after, patterns}
+use Rattle.cards.specs.InOrder.{in-order-after, in-order}
+use Rattle.cards.specs.Meaning.{operator, numbered, record-pattern, patterns}
 use Rattle.cards.specs.Laws.Record.{record-at-place, length-records, byte-at, bytes-drop}
 use Rattle.cards.specs.Letters.{letter-of, mentions, those-below, letters}
 
@@ -160,8 +161,8 @@ append-atoms P [] p f g (suc at) c m = absurd (List·Memᴰ·not-nil m)
 append-atoms P (q ∷ ps) p f g zero c m = f zero c m
 append-atoms P (q ∷ ps) p f g (suc at) c m = append-atoms P ps p (λ i. f (suc i)) g at c m
 
-after-atoms : (P : ℕ → Type 0) (before : List Pattern) (rs : List Record) → AtomsIn P before → ((c : ℕ) → mentions rs c ≡ true → P c) → AtomsIn P (patterns-after before rs)
-unfolding patterns-after mentions
+after-atoms : (P : ℕ → Type 0) (before : List Pattern) (rs : List Record) → AtomsIn P before → ((c : ℕ) → mentions rs c ≡ true → P c) → AtomsIn P (in-order-after record-pattern before rs)
+unfolding in-order-after mentions
 after-atoms P before [] f g = f
 after-atoms P before (r ∷ rs) f g =
     after-atoms P (before ++ record-pattern before r ∷ []) rs
@@ -174,5 +175,5 @@ after-atoms P before (r ∷ rs) f g =
 
 -- Every atom of a record's pattern is mentioned.
 pub atoms-mentioned : (rs : List Record) (at c : ℕ) → Listed (atoms (numbered (patterns rs) at)) c → mentions rs c ≡ true
-unfolding patterns atoms
+unfolding in-order atoms
 atoms-mentioned rs = after-atoms (λ c. mentions rs c ≡ true) [] rs (λ at c m. absurd (List·Memᴰ·not-nil m)) (λ c e. e)

@@ -8,7 +8,7 @@ use lib.ListN.{length, getD, take, drop, length-drop, take-append-drop, List·ge
 use lib.Seq.{ext-getD, drop-drop, getD-take, take-all, length-take-le}
 use Rattle.language.specs.Word.{none, one, Bytes}
 use Rattle.cards.specs.declared.record.Record.{Record}
-use Rattle.cards.specs.Record.{record-of, bytes-of, record-at, first-records, records, no-record, child, run-of}
+use Rattle.cards.specs.Record.{record-of, bytes-of, number-of, record-at, first-records, records, no-record, child, run-of}
 
 -- Two bytes of a number, low byte first.
 
@@ -133,3 +133,54 @@ length-records card = length-first (length card / 8) card
 
 pub past-records : (card : List ℕ) (at : ℕ) → length card / 8 ≤ at → child (records card) at ≡ no-record
 past-records card at l = List·getD-eq-default (records card) no-record {n = at} (omega (arith, length-records card))
+
+-- Records whose fields fit their bytes are told apart by their numbers.
+
+pub record Fitting (r : Record) : Type 0 where
+  pub kind : r .kind < 256
+  pub letter : r .letter < 256
+  pub mark : r .mark < 256
+  pub fourth : r .fourth < 256
+  pub left : r .left < 65536
+  pub right : r .right < 65536
+
+digit : (a b x y : ℕ) → a < 256 → x < 256 → a + 256 * b ≡ x + 256 * y → (a ≡ x) × (b ≡ y)
+digit a b x y l m e = (omega arith, omega arith)
+
+two-digits : (a b x y : ℕ) → a < 65536 → x < 65536 → a + 65536 * b ≡ x + 65536 * y → (a ≡ x) × (b ≡ y)
+two-digits a b x y l m e = (omega arith, omega arith)
+
+pub number-one : (r s : Record) → Fitting r → Fitting s → number-of r ≡ number-of s → r ≡ s
+number-one r s f g e =
+    let k = digit (r .kind) _ (s .kind) _ (f .kind) (g .kind) e in
+    let l = digit (r .letter) _ (s .letter) _ (f .letter) (g .letter) (k .1) in
+    let m = digit (r .mark) _ (s .mark) _ (f .mark) (g .mark) (l .1) in
+    let z = digit (r .fourth) _ (s .fourth) _ (f .fourth) (g .fourth) (m .1) in
+    let c = two-digits (r .left) (r .right) (s .left) (s .right) (f .left) (g .left) (z .1) in
+    λ i. record { kind = k .0 i; letter = l .0 i; mark = m .0 i; fourth = z .0 i; left = c .0 i; right = c .1 i }
+
+-- A record read from bytes fits, and its own bytes are bytes.
+
+pub fitting-of : {s : List ℕ} → Bytes s → Fitting (record-of s)
+fitting-of b =
+    record
+      { kind = byte-at b 0
+      ; letter = byte-at b 1
+      ; mark = byte-at b 2
+      ; fourth = byte-at b 3
+      ; left = omega (arith, byte-at b 4, byte-at b 5)
+      ; right = omega (arith, byte-at b 6, byte-at b 7)
+      }
+
+pub bytes-fitting : (r : Record) → Fitting r → Bytes (bytes-of r)
+bytes-fitting r f =
+    one (f .kind)
+    (one (f .letter)
+    (one (f .mark)
+    (one (f .fourth)
+    (one (low (r .left)) (one (high (r .left) (f .left)) (one (low (r .right)) (one (high (r .right) (f .right)) none)))))))
+  where
+    low : (n : ℕ) → n % 256 < 256
+    low n = omega arith
+    high : (n : ℕ) → n < 65536 → n / 256 < 256
+    high n l = omega arith
