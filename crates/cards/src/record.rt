@@ -49,7 +49,9 @@ pub fn number(r: Record) -> u64
             * ((r.letter as u64)
                 + 256
                     * ((r.mark as u64)
-                        + 256 * ((r.fourth as u64) + 256 * ((r.left as u64) + 65536 * (r.right as u64)))))
+                        + 256
+                            * ((r.fourth as u64)
+                                + 256 * ((r.left as u64) + 65536 * (r.right as u64)))))
 }
 
 // The 8 bytes of the record numbered `at`, as one number.

@@ -19,7 +19,7 @@ use Rattle.cards.specs.Record.{records, child, no-record}
 use Rattle.cards.specs.Kind.{kind-of}
 use Rattle.cards.specs.Mark.{bit, marked, has-empty}
 use Rattle.cards.specs.Examine.{_then_, wrong-length, obeys-line, obeys, mark-right, record-standing, records-standing, examined}
-use Rattle.cards.specs.Meaning.{operator, patterns, numbered}
+use Rattle.cards.specs.Meaning.{record-pattern, patterns, numbered}
 use Rattle.cards.specs.Standing.{RightLength, Line, nothing, empty-word, letter, choice, sequence, repeat, Obeys, TrueMark, one, zero as no-mark, MarkRight, Right, Stands, by-1, by-2, by-3, in-good-standing}
 use Rattle.cards.specs.Laws.Record.{length-records}
 use Rattle.cards.specs.Laws.Meaning.{pattern-of-record}
@@ -125,34 +125,30 @@ test-of-mark p m (no-mark e h) = go (nullable p) refl
     go true t = absurd (h (nullable-right p .sound t))
     go false t = e
 
-marked-bit : (r : Record) (b : Bool) → r .mark ≡ bit b → marked r ≡ b
+pub marked-bit : (r : Record) (b : Bool) → r .mark ≡ bit b → marked r ≡ b
 marked-bit r true e = rw e
 marked-bit r false e = rw e
+
+-- Where the marks before tell the empty-word test of their patterns, so does the mark that a record has to have.
+pub has-empty-right : (rs : List Record) (ps : List Pattern) (at : ℕ) → ((i : ℕ) → i < at → marked (child rs i) ≡ nullable (numbered ps i))
+    → (r : Record) → Line at r
+    → has-empty (kind-of (r .kind)) (marked (child rs (r .left))) (marked (child rs (r .right))) ≡ nullable (record-pattern ps r)
+unfolding nullable
+has-empty-right rs ps at before r (nothing k _ _ _) = rw k
+has-empty-right rs ps at before r (empty-word k _ _ _) = rw k
+has-empty-right rs ps at before r (letter k _ _) = rw k
+has-empty-right rs ps at before r (choice k _ m n) = rw (k, before (r .left) m, before (r .right) n)
+has-empty-right rs ps at before r (sequence k _ m n) = rw (k, before (r .left) m, before (r .right) n)
+has-empty-right rs ps at before r (repeat k _ m _) = rw k
 
 -- In a card in which the records before are right, the mark that a record has to have is the empty-word test of its pattern.
 module _ (rs : List Record) (at : ℕ) (l : at < length rs) (before : (i : ℕ) → i < at → Right rs i) where
   child-marked : (i : ℕ) → i < at → marked (child rs i) ≡ nullable (numbered (patterns rs) i)
   child-marked i m = marked-bit (child rs i) _ (test-of-mark (numbered (patterns rs) i) (child rs i .mark) (before i m .mark))
 
-  has-empty-right : Line at (child rs at)
-      → has-empty (kind-of (child rs at .kind)) (marked (child rs (child rs at .left))) (marked (child rs (child rs at .right)))
-      ≡ nullable (numbered (patterns rs) at)
-  unfolding nullable
-  has-empty-right o = rw (pattern-of-record rs at l o) (go o)
-    where
-      go : Line at (child rs at)
-          → has-empty (kind-of (child rs at .kind)) (marked (child rs (child rs at .left))) (marked (child rs (child rs at .right)))
-          ≡ nullable (operator (kind-of (child rs at .kind)) (child rs at .letter) (numbered (patterns rs) (child rs at .left)) (numbered (patterns rs) (child rs at .right)))
-      go (nothing k _ _ _) = rw k
-      go (empty-word k _ _ _) = rw k
-      go (letter k _ _) = rw k
-      go (choice k _ m n) = rw (k, child-marked _ m, child-marked _ n)
-      go (sequence k _ m n) = rw (k, child-marked _ m, child-marked _ n)
-      go (repeat k _ m _) = rw k
-
   mark-right-tells : Line at (child rs at) → Tells (mark-right rs (child rs at)) (MarkRight rs at)
   mark-right-tells o =
-      let e = has-empty-right o in
+      let e = has-empty-right rs (patterns rs) at child-marked (child rs at) o ∙ ap nullable (sym (pattern-of-record rs at l o)) in
       record {
         sound = λ t. mark-of-test _ _ (eqb-true _ _ t ∙ ap bit e);
         complete = λ h. eq-eqb _ _ (test-of-mark _ _ h ∙ ap bit (sym e));

@@ -66,7 +66,7 @@ module _ {A : Type 0} (value : List A → Record → A) where
         ∙ getD-append-seam before (value before r) [] none)
     after-at before (r ∷ rs) (suc at) l =
         let e : length before + suc at ≡ length (before ++ value before r ∷ []) + at
-            = omega (arith, length-append before (value before r ∷ [])) in
+        = omega (arith, length-append before (value before r ∷ [])) in
         rw e (after-at (before ++ value before r ∷ []) rs at (omega arith))
 
     pub value-at : (rs : List Record) (at : ℕ) → at < length rs → getD (in-order value rs) at none ≡ value (in-order value (take at rs)) (child rs at)

@@ -29,6 +29,7 @@ pattern-of-record rs at l o = value-at record-pattern no-pattern rs at l ∙ go 
   where
     lower : (i : ℕ) → i < at → numbered (patterns (take at rs)) i ≡ numbered (patterns rs) i
     lower i m = before-kept record-pattern no-pattern rs at i l m
+
     go : Line at (child rs at) → record-pattern (patterns (take at rs)) (child rs at) ≡ record-pattern (patterns rs) (child rs at)
     go (nothing k _ _ _) = rw k
     go (empty-word k _ _ _) = rw k

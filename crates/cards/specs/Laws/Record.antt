@@ -163,14 +163,14 @@ number-one r s f g e =
 
 pub fitting-of : {s : List ℕ} → Bytes s → Fitting (record-of s)
 fitting-of b =
-    record
-      { kind = byte-at b 0
-      ; letter = byte-at b 1
-      ; mark = byte-at b 2
-      ; fourth = byte-at b 3
-      ; left = omega (arith, byte-at b 4, byte-at b 5)
-      ; right = omega (arith, byte-at b 6, byte-at b 7)
-      }
+    record {
+      kind = byte-at b 0;
+      letter = byte-at b 1;
+      mark = byte-at b 2;
+      fourth = byte-at b 3;
+      left = omega (arith, byte-at b 4, byte-at b 5);
+      right = omega (arith, byte-at b 6, byte-at b 7);
+    }
 
 pub bytes-fitting : (r : Record) → Fitting r → Bytes (bytes-of r)
 bytes-fitting r f =
@@ -182,5 +182,6 @@ bytes-fitting r f =
   where
     low : (n : ℕ) → n % 256 < 256
     low n = omega arith
+
     high : (n : ℕ) → n < 65536 → n / 256 < 256
     high n l = omega arith

@@ -8,8 +8,8 @@ use mathlib.Core.Logic.{_⊎_, inl, inr}
 use mathlib.Core.Path.{_≡_, refl, sym, _∙_, ap, subst}
 use lib.Dec.{eqb}
 use borrow.Author.Tests.{eqb-true, eqb-false}
-use Rattle.language.specs.Word.{Word}
-use Rattle.language.specs.Language.{Language, Concatenation, Power, Star, Pattern, nothing, empty-word, letter, choice, sequence, repeat, language, Equal}
+use Rattle.language.specs.Word.{Word, IsByte, one}
+use Rattle.language.specs.Language.{Language, Union, Concatenation, Power, Star, Pattern, nothing, empty-word, letter, choice, sequence, repeat, language, Equal}
 use Rattle.language.specs.Laws.Quotient.{Quotient}
 
 -- 003: nullable.
@@ -199,3 +199,41 @@ member? (c ∷ w) p =
       | yes h ↦ yes (derivative-to c p w h)
       | no h ↦ no (λ k. h (derivative-from c p w k))
     ]
+
+-- The same of any languages: the quotient of each operator, over the quotients of its parts.
+
+pub quotient-equal : {c : ℕ} → IsByte c → {A B : Language} → Equal A B → Equal (Quotient c A) (Quotient c B)
+quotient-equal {c} l e = record { to = λ w o h. e .to (c ∷ w) (one l o) h; from = λ w o h. e .from (c ∷ w) (one l o) h }
+
+pub quotient-empty-word : (c : ℕ) → Equal (Quotient c (language empty-word)) (language nothing)
+quotient-empty-word c = record { to = λ w o h. cons≢nil h; from = λ w o h. absurd h }
+
+pub quotient-same-letter : (c d : ℕ) → eqb d c ≡ true → Equal (Quotient c (language (letter d))) (language empty-word)
+quotient-same-letter c d e =
+    record { to = λ w o h. tail-eq-of-cons-eq h; from = λ w o h. rw (eqb-true d c e, h) refl }
+
+pub quotient-other-letter : (c d : ℕ) → eqb d c ≡ false → Equal (Quotient c (language (letter d))) (language nothing)
+quotient-other-letter c d e =
+    record { to = λ w o h. eqb-false d c e (sym (head-eq-of-cons-eq h)); from = λ w o h. absurd h }
+
+pub quotient-marked : (c : ℕ) (A B : Language) → A [] → Equal (Quotient c (Concatenation A B)) (Union (Concatenation (Quotient c A) B) (Quotient c B))
+quotient-marked c A B m = record { to = λ w o h. to w (starts A B c w h); from = λ w o h. from w h }
+  where
+    to : (w : Word) → Starts A B c w → Union (Concatenation (Quotient c A) B) (Quotient c B) w
+    to w (in-the-front h) = inl h
+    to w (in-the-back a h) = inr h
+
+    from : (w : Word) → Union (Concatenation (Quotient c A) B) (Quotient c B) w → Concatenation A B (c ∷ w)
+    from w (inl h) = before-front A B c w h
+    from w (inr h) = record { front = []; back = c ∷ w; joined = refl; in-front = m; in-back = h }
+
+pub quotient-unmarked : (c : ℕ) (A B : Language) → (A [] → ⊥) → Equal (Quotient c (Concatenation A B)) (Concatenation (Quotient c A) B)
+quotient-unmarked c A B m = record { to = λ w o h. to w (starts A B c w h); from = λ w o h. before-front A B c w h }
+  where
+    to : (w : Word) → Starts A B c w → Concatenation (Quotient c A) B w
+    to w (in-the-front h) = h
+    to w (in-the-back a h) = absurd (m a)
+
+pub quotient-star : (c : ℕ) (A : Language) → Equal (Quotient c (Star A)) (Concatenation (Quotient c A) (Star A))
+quotient-star c A =
+    record { to = λ w o h. power-starts A c w (h .times) (h .in-power); from = λ w o h. repeat-to A c w h }

@@ -1,0 +1,10 @@
+-- What is proved of the definitions: nothing here has to be believed, each file is checked.
+pub mod Room
+pub mod Finding
+pub mod Languages
+pub mod Wall
+pub mod Making
+pub mod Fresh
+pub mod Loading
+pub mod GoodRoom
+pub mod LoadingRoom

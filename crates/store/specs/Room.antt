@@ -1,0 +1,29 @@
+-- What stands in a work room. Document 01: "Records are in card form"; "records .. placed by then stand, .. and every other byte is as lent".
+-- A store is a list of records: the record at place n is the one numbered n. Its records are the first bytes of the room, 8 for each.
+use Prim.Native.Nat.{ℕ, _*_, _/_}
+use mathlib.Core.List.{List, [], _∷_, _++_}
+use lib.ListN.{length, drop}
+use Rattle.cards.specs.declared.record.Record.{Record}
+use Rattle.cards.specs.Record.{first-records, run-of}
+
+-- The store of so many places in a room.
+abbrev pub store-in : List ℕ → ℕ → List Record
+store-in room places = first-records places room
+
+-- The places of a room.
+abbrev pub places-of : List ℕ → ℕ
+places-of room = length room / 8
+
+-- The room with this store in it: its records, and every other byte as lent.
+abbrev pub laid : List Record → List ℕ → List ℕ
+laid store room = run-of store ++ drop (8 * length store) room
+
+-- "Every call begins a fresh store in the lent work room: place 0 is nothing, place 1 the empty word."
+abbrev pub nothing-record : Record
+nothing-record = record { kind = 0; letter = 0; mark = 0; fourth = 0; left = 0; right = 0 }
+
+abbrev pub empty-word-record : Record
+empty-word-record = record { kind = 1; letter = 0; mark = 1; fourth = 0; left = 0; right = 0 }
+
+abbrev pub fresh-store : List Record
+fresh-store = nothing-record ∷ empty-word-record ∷ []

@@ -1,0 +1,24 @@
+-- What the code answers, of what making and loading come to: places by number, and the number of places taken.
+use Prim.Native.Nat.{ℕ}
+use mathlib.Core.List.{List}
+use mathlib.Core.Path.{_≡_}
+use lib.ListN.{length, take}
+use Rattle.store.specs.declared.making.Made.{Made}
+use Rattle.store.specs.declared.making.Made.the-variants.{Placed, Full}
+use Rattle.store.specs.declared.loading.Loaded.{Loaded}
+use Rattle.store.specs.declared.loading.Loaded.the-variants.{All, Full as AllFull}
+use Rattle.store.specs.Making.{Making, placed, full}
+use Rattle.store.specs.Loading.{Loading, loaded, no-room}
+
+abbrev pub told-making : Making → Made
+told-making (placed place store) = Placed place (length store)
+told-making (full store) = Full (length store)
+
+abbrev pub told-loading : Loading → Loaded
+told-loading (loaded places store) = All (length store)
+told-loading (no-room store) = AllFull (length store)
+
+-- The map begins with the place of each record of the card.
+abbrev pub Mapped : Loading → List ℕ → Type 0
+Mapped (loaded places store) map = take (length places) map ≡ places
+Mapped (no-room store) map = Unit {0}

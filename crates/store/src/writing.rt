@@ -1,0 +1,20 @@
+// Writing a new record at the first free place.
+use cards::record::RECORD;
+use cards::record::Record;
+use cards::record::lay;
+ghost use mathlib.Core.Path.{_≡_};
+ghost use mathlib.Core.List.{[], _∷_, _++_};
+ghost use Prim.Native.Nat.{_+_, _*_, _≤_};
+ghost use lib.ListN.{length};
+ghost use Rattle.store.specs.Room.{store-in, laid};
+ghost use Rattle.store.specs.Good.{GoodStore};
+
+// The record writer is lent the part of the room that starts at the first free place.
+pub fn write(room: &mut [u8], places: usize, r: Record)
+    requires { ⌜ GoodStore (now room) places ⌝ }
+    requires { ⌜ 8 * places + 8 ≤ length (now room) ⌝ }
+    ensures { λ _. ⌜ now (room .exit) ≡ laid (store-in (now (room .entry)) places ++ r ∷ []) (now (room .entry)) ⌝ }
+{
+    let start = RECORD * places;
+    lay(&mut room[start..], r);
+}
