@@ -8,3 +8,4 @@ pub mod Fresh
 pub mod Loading
 pub mod GoodRoom
 pub mod LoadingRoom
+pub mod SomeWord

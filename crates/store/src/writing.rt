@@ -15,6 +15,14 @@ pub fn write(room: &mut [u8], places: usize, r: Record)
     requires { ⌜ 8 * places + 8 ≤ length (now room) ⌝ }
     ensures { λ _. ⌜ now (room .exit) ≡ laid (store-in (now (room .entry)) places ++ r ∷ []) (now (room .entry)) ⌝ }
 {
-    let start = RECORD * places;
+    let start = start_of(places);
     lay(&mut room[start..], r);
+}
+
+// Where the first free place starts.
+fn start_of(places: usize) -> usize
+    requires { ⌜ places ≤ 4096 ⌝ }
+    ensures { λ s. ⌜ s ≡ 8 * places ⌝ }
+{
+    RECORD * places
 }

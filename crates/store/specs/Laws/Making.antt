@@ -51,7 +51,7 @@ module _ (room : ℕ) (store : List Record) (kind letter left right : ℕ) where
 
   -- Each way leads to one outcome.
 
-  make-by-a-rule : {place : ℕ} → rule (kind-of kind) left right ≡ Gives place → make room store kind letter left right ≡ placed place store
+  pub make-by-a-rule : {place : ℕ} → rule (kind-of kind) left right ≡ Gives place → make room store kind letter left right ≡ placed place store
   unfolding make
   make-by-a-rule e = ap (λ (u : Ruled). by-rule u room store (new-record store kind letter left right)) e
 

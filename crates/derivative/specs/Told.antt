@@ -1,0 +1,31 @@
+-- What the code answers, of what a derivation comes to: places by number, and the number of places taken.
+use Prim.Native.Nat.{ℕ}
+use mathlib.Core.List.{List}
+use mathlib.Core.Path.{_≡_}
+use lib.ListN.{length}
+use Rattle.cards.specs.declared.record.Record.{Record}
+use Rattle.store.specs.declared.making.Made.{Made}
+use Rattle.store.specs.declared.making.Made.the-variants.{Placed, Full}
+use Rattle.store.specs.Room.{laid}
+use Rattle.derivative.specs.declared.Derived.{Derived}
+use Rattle.derivative.specs.declared.Derived.the-variants.{At, Stopped}
+use Rattle.derivative.specs.Derivative.{Deriving, derived, stopped}
+
+abbrev pub told-deriving : Deriving → Derived
+told-deriving (derived place store budget) = At place (length store) budget
+told-deriving (stopped number store budget) = Stopped number (length store) budget
+
+-- The store afterwards.
+abbrev pub after-deriving : Deriving → List Record
+after-deriving (derived place store budget) = store
+after-deriving (stopped number store budget) = store
+
+-- The answer tells what the derivation comes to, and the room holds its store.
+pub record Comes (room : List ℕ) (d : Deriving) (answer : Derived) (room′ : List ℕ) : Type 0 where
+  pub answers : answer ≡ told-deriving d
+  pub leaves : room′ ≡ laid (after-deriving d) room
+
+-- What the code answers of a making within a derivation.
+abbrev pub of-made : Made → ℕ → Derived
+of-made (Placed place taken) budget = At place taken budget
+of-made (Full taken) budget = Stopped 7 taken budget
