@@ -11,7 +11,8 @@ use lib.ListN.{length, drop, drop-of-length-le}
 use lib.Seq.{drop-cons}
 use borrow.Author.Tests.{eqb-true, eqb-false, eq-eqb, ne-eqb, ltb-true, ltb-false, lt-ltb, le-ltb}
 use Rattle.language.specs.Language.{Pattern, language}
-use Rattle.language.specs.Laws.Derivative.{Tells, nullable, nullable-right}
+use Rattle.language.specs.Laws.Tests.{Tells, and-left, and-right, and-both}
+use Rattle.language.specs.Laws.Derivative.{nullable, nullable-right}
 use Rattle.cards.specs.declared.record.Record.{Record}
 use Rattle.cards.specs.declared.examine.Standing.{Standing}
 use Rattle.cards.specs.declared.examine.Standing.the-variants.{Good, Refused}
@@ -23,19 +24,6 @@ use Rattle.cards.specs.Meaning.{record-pattern, patterns, numbered}
 use Rattle.cards.specs.Standing.{RightLength, Line, nothing, empty-word, letter, choice, sequence, repeat, Obeys, TrueMark, one, zero as no-mark, MarkRight, Right, Stands, by-1, by-2, by-3, in-good-standing}
 use Rattle.cards.specs.Laws.Record.{length-records}
 use Rattle.cards.specs.Laws.Meaning.{pattern-of-record}
-
--- Tests joined by "and".
-
-and-left : (a b : Bool) → a && b ≡ true → a ≡ true
-and-left true b e = refl
-and-left false b e = e
-
-and-right : (a b : Bool) → a && b ≡ true → b ≡ true
-and-right true b e = e
-and-right false b e = absurd (false≢true e)
-
-both : {a b : Bool} → a ≡ true → b ≡ true → a && b ≡ true
-both e f = rw (e, f)
 
 -- Number 1.
 
@@ -87,12 +75,12 @@ line-sound at r (suc (suc (suc (suc (suc zero))))) e t = let z = one-child (r .l
 line-sound at r (suc (suc (suc (suc (suc (suc k)))))) e t = absurd (false≢true t)
 
 line-complete : (at : ℕ) (r : Record) → Line at r → obeys-line (kind-of (r .kind)) at r ≡ true
-line-complete at r (nothing k a b c) = rw k (both (both (eq-eqb _ _ a) (eq-eqb _ _ b)) (eq-eqb _ _ c))
-line-complete at r (empty-word k a b c) = rw k (both (both (eq-eqb _ _ a) (eq-eqb _ _ b)) (eq-eqb _ _ c))
-line-complete at r (letter k a b) = rw k (both (eq-eqb _ _ a) (eq-eqb _ _ b))
-line-complete at r (choice k a b c) = rw k (both (both (eq-eqb _ _ a) (lt-ltb _ _ b)) (lt-ltb _ _ c))
-line-complete at r (sequence k a b c) = rw k (both (both (eq-eqb _ _ a) (lt-ltb _ _ b)) (lt-ltb _ _ c))
-line-complete at r (repeat k a b c) = rw k (both (both (eq-eqb _ _ a) (lt-ltb _ _ b)) (eq-eqb _ _ c))
+line-complete at r (nothing k a b c) = rw k (and-both (and-both (eq-eqb _ _ a) (eq-eqb _ _ b)) (eq-eqb _ _ c))
+line-complete at r (empty-word k a b c) = rw k (and-both (and-both (eq-eqb _ _ a) (eq-eqb _ _ b)) (eq-eqb _ _ c))
+line-complete at r (letter k a b) = rw k (and-both (eq-eqb _ _ a) (eq-eqb _ _ b))
+line-complete at r (choice k a b c) = rw k (and-both (and-both (eq-eqb _ _ a) (lt-ltb _ _ b)) (lt-ltb _ _ c))
+line-complete at r (sequence k a b c) = rw k (and-both (and-both (eq-eqb _ _ a) (lt-ltb _ _ b)) (lt-ltb _ _ c))
+line-complete at r (repeat k a b c) = rw k (and-both (and-both (eq-eqb _ _ a) (lt-ltb _ _ b)) (eq-eqb _ _ c))
 
 pub obeys-right : (at : ℕ) (r : Record) → Tells (obeys at r) (Obeys at r)
 obeys-right at r =
@@ -104,7 +92,7 @@ obeys-right at r =
             fourth = eqb-true (r .fourth) 0 (and-left fourth line t);
             line = line-sound at r (r .kind) refl (and-right fourth line t);
           };
-      complete = λ h. both (eq-eqb (r .fourth) 0 (h .fourth)) (line-complete at r (h .line));
+      complete = λ h. and-both (eq-eqb (r .fourth) 0 (h .fourth)) (line-complete at r (h .line));
     }
 
 -- Number 3.

@@ -11,7 +11,7 @@ use borrow.Author.Tests.{eq-eqb, eqb-true}
 use lib.ListN.{length}
 use Rattle.language.specs.Word.{Bytes}
 use Rattle.language.specs.Language.{Pattern}
-use Rattle.language.specs.Laws.Derivative.{Tells}
+use Rattle.language.specs.Laws.Tests.{Tells}
 use Rattle.language.specs.Laws.Atoms.{Listed, atoms}
 use Rattle.cards.specs.declared.kind.Kind.{Kind}
 use Rattle.cards.specs.declared.kind.Kind.the-variants.{Nothing, EmptyWord, Letter, Choice, Sequence, Repeat, Unknown}

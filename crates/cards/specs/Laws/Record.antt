@@ -52,7 +52,7 @@ byte-at (one b o) zero = b
 byte-at (one b o) (suc i) = byte-at o i
 
 -- The text of a record is the 8 bytes that it was read from: one record has one text.
-first-text : (s : List ℕ) → 8 ≤ length s → Bytes s → bytes-of (record-of s) ≡ take 8 s
+pub first-text : (s : List ℕ) → 8 ≤ length s → Bytes s → bytes-of (record-of s) ≡ take 8 s
 first-text s n b =
     ext-getD 0 (bytes-of (record-of s)) (take 8 s) (sym (length-take-le 8 s n))
     (below-eight (λ (i : ℕ). getD (bytes-of (record-of s)) i 0 ≡ getD (take 8 s) i 0)

@@ -32,16 +32,16 @@ use Rattle.derivative.specs.Laws.Steps.{Step, StepLaw, was-done, was-end
 use Rattle.derivative.specs.Laws.Derivative.{is-unpaid, is-paid, derive-to-law}
 
 -- What a derivation keeps, in a room of so many places: the wall, and a derived place is in the store.
-data Keeps (cap : ℕ) (store : List Record) : Deriving → Type 0 where
+pub data Keeps (cap : ℕ) (store : List Record) : Deriving → Type 0 where
   derives : {place : ℕ} {store′ : List Record} {budget : ℕ} → Kept cap store store′ → place < length store′ → Keeps cap store (derived place store′ budget)
   stops : {number : ℕ} {store′ : List Record} {budget : ℕ} → Kept cap store store′ → Keeps cap store (stopped number store′ budget)
 
-step-keeps : {f : Step} {cap : ℕ} {store : List Record} {budget cost : ℕ} {Mean : List Record → ℕ → Type 0} {d : Deriving}
+pub step-keeps : {f : Step} {cap : ℕ} {store : List Record} {budget cost : ℕ} {Mean : List Record → ℕ → Type 0} {d : Deriving}
     → StepLaw f cap store budget cost Mean d → Keeps cap store d
 step-keeps (was-done h) = derives (h .kept) (h .inside)
 step-keeps (was-ended h) = stops (h .kept)
 
-keeps-longer : {cap : ℕ} {store : List Record} {d : Deriving} → Keeps cap store d → length store ≤ length (after-deriving d)
+pub keeps-longer : {cap : ℕ} {store : List Record} {d : Deriving} → Keeps cap store d → length store ≤ length (after-deriving d)
 keeps-longer (derives k _) = grows-length (k .grows)
 keeps-longer (stops k) = grows-length (k .grows)
 
@@ -98,19 +98,19 @@ module _ (letter : ℕ) (byte : IsByte letter) (depth : ℕ) where
       (λ y s b k i. after-product-keeps (k .ready) right left-marked y l i (omega (arith, grows-length (k .grows))) b)
 
 -- What the code told is one thing.
-not-both : {answer : Derived} {number taken rest x taken′ rest′ : ℕ} → answer ≡ Stopped number taken rest → answer ≡ At x taken′ rest′ → ⊥
+pub not-both : {answer : Derived} {number taken rest x taken′ rest′ : ℕ} → answer ≡ Stopped number taken rest → answer ≡ At x taken′ rest′ → ⊥
 not-both e f = let z : _≡_ {A = ℕ} 0 1 = cc in omega arith
 
 -- A place was derived from the store of a room: the store that then stands in it.
-record Stands (room : List ℕ) (places : ℕ) (d : Deriving) (x taken rest : ℕ) (room′ : List ℕ) : Type 0 where
-  store : List Record
-  is : d ≡ derived x store rest
-  taken-is : taken ≡ length store
-  room-is : room′ ≡ laid store room
-  kept : Kept (places-of room) (store-in room places) store
-  inside : x < length store
+pub record Stands (room : List ℕ) (places : ℕ) (d : Deriving) (x taken rest : ℕ) (room′ : List ℕ) : Type 0 where
+  pub store : List Record
+  pub is : d ≡ derived x store rest
+  pub taken-is : taken ≡ length store
+  pub room-is : room′ ≡ laid store room
+  pub kept : Kept (places-of room) (store-in room places) store
+  pub inside : x < length store
 
-stands : {room : List ℕ} {places : ℕ} {d : Deriving} {answer : Derived} {room′ : List ℕ}
+pub stands : {room : List ℕ} {places : ℕ} {d : Deriving} {answer : Derived} {room′ : List ℕ}
     → Keeps (places-of room) (store-in room places) d → Comes room d answer room′
     → {x taken rest : ℕ} → answer ≡ At x taken rest → Stands room places d x taken rest room′
 stands (derives {place} {store′} k l) c {x} e =
@@ -127,7 +127,7 @@ stands (derives {place} {store′} k l) c {x} e =
 stands (stops k) c e = absurd (not-both (c .answers) e)
 
 -- A stop stays a stop.
-stopped-then : {room : List ℕ} {d : Deriving} {answer : Derived} {room′ : List ℕ} → Comes room d answer room′
+pub stopped-then : {room : List ℕ} {d : Deriving} {answer : Derived} {room′ : List ℕ} → Comes room d answer room′
     → {number taken rest : ℕ} → answer ≡ Stopped number taken rest
     → (next : ℕ → List Record → ℕ → Deriving) → Comes room (and-then d next) (Stopped number taken rest) room′
 stopped-then {d = derived place store budget} c e next = absurd (not-both e (c .answers))
@@ -140,12 +140,12 @@ pub record Next (places : ℕ) (room′ : List ℕ) (x taken : ℕ) : Type 0 whe
   pub more : places ≤ taken
 
 -- A place that is taken is in the store.
-in-store : (room : List ℕ) {place places : ℕ} → place < places → place < length (store-in room places)
+pub in-store : (room : List ℕ) {place places : ℕ} → place < places → place < length (store-in room places)
 in-store room {place} {places} l = omega (arith, length-store-in room places)
 
 module _ {room : List ℕ} {places : ℕ} (good : GoodStore room places) {d : Deriving} {x taken rest : ℕ} {room′ : List ℕ}
     (s : Stands room places d x taken rest room′) where
-  next : Next places room′ x taken
+  pub next : Next places room′ x taken
   next =
       record {
         good = rw (s .room-is, s .taken-is) (good-after room (s .kept) good);
@@ -156,7 +156,7 @@ module _ {room : List ℕ} {places : ℕ} (good : GoodStore room places) {d : De
   places-then : places-of room′ ≡ places-of room
   places-then = ap places-of (s .room-is) ∙ places-after room (s .kept)
 
-  store-then : store-in room′ taken ≡ s .store
+  pub store-then : store-in room′ taken ≡ s .store
   store-then = ap₂ store-in (s .room-is) (s .taken-is) ∙ store-after room (s .kept)
 
   -- What follows goes on from the store that stands.

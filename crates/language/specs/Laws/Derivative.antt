@@ -10,6 +10,7 @@ use lib.Dec.{eqb}
 use borrow.Author.Tests.{eqb-true, eqb-false}
 use Rattle.language.specs.Word.{Word, IsByte, one}
 use Rattle.language.specs.Language.{Language, Union, Concatenation, Power, Star, Pattern, nothing, empty-word, letter, choice, sequence, repeat, language, Equal}
+use Rattle.language.specs.Laws.Tests.{Tells}
 use Rattle.language.specs.Laws.Quotient.{Quotient}
 
 -- 003: nullable.
@@ -34,11 +35,6 @@ derivative c (sequence p q) =
 derivative c (repeat p) = sequence (derivative c p) (repeat p)
 
 -- The test.
-
--- A test that tells whether A holds.
-pub record Tells (b : Bool) (A : Type 0) : Type 0 where
-  pub sound : b ≡ true → A
-  pub complete : A → b ≡ true
 
 tells-or : {a b : Bool} {A B : Type 0} → Tells a A → Tells b B → Tells (a || b) (A ⊎ B)
 tells-or {a} {b} {A} {B} s t = go a b (s .sound) (s .complete) (t .sound) (t .complete)

@@ -9,6 +9,7 @@ use mathlib.Core.Path.{_≡_, refl, sym, _∙_, ap}
 use lib.Dec.{eqb}
 use borrow.Author.Tests.{eqb-true, eq-eqb}
 use lib.ListN.{length}
+use Rattle.language.specs.Laws.Tests.{and-left, and-right}
 use Rattle.cards.specs.declared.record.Record.{Record}
 use Rattle.cards.specs.Record.{child}
 use Rattle.store.specs.declared.finding.Found.{Found}
@@ -16,14 +17,6 @@ use Rattle.store.specs.declared.finding.Found.the-variants.{At, Absent}
 use Rattle.store.specs.Making.{identical, find-from, find}
 
 -- Identical records are equal.
-
-and-left : (a b : Bool) → a && b ≡ true → a ≡ true
-and-left true b e = refl
-and-left false b e = e
-
-and-right : (a b : Bool) → a && b ≡ true → b ≡ true
-and-right true b e = e
-and-right false b e = absurd (false≢true e)
 
 pub identical-sound : (r s : Record) → identical r s ≡ true → r ≡ s
 identical-sound r s e =

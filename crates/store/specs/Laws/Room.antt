@@ -4,41 +4,14 @@ use Prim.Native.Nat.{ℕ, zero, suc, _+_, _*_, _-_, _<_, _≤_}
 use native.Mathlib.Omega.{arith}
 use mathlib.Core.List.{List, [], _∷_, _++_, append-assoc, append-nil}
 use mathlib.Core.Path.{_≡_, refl, sym, _∙_, ap, ap₂}
-use lib.ListN.{length, getD, take, drop, length-append, length-drop, take-append-drop, drop-of-length-le}
-use lib.Seq.{getD-take, take-add, take-all, drop-drop, drop-append-add, length-take-le}
-use Rattle.language.specs.Word.{none, one, Bytes}
+use lib.ListN.{length, take, drop, length-append, length-drop, take-append-drop, drop-of-length-le}
+use lib.Seq.{take-add, take-all, drop-drop, drop-append-add}
+use Rattle.language.specs.Word.{none, Bytes}
+use Rattle.language.specs.Laws.Words.{over-join}
 use Rattle.cards.specs.declared.record.Record.{Record}
-use Rattle.cards.specs.Record.{record-of, bytes-of, record-at, first-records, child, run-of}
-use Rattle.cards.specs.Laws.Record.{one-text, first-of-run, length-run, length-first, first-at, bytes-drop, Fitting, bytes-fitting}
+use Rattle.cards.specs.Record.{bytes-of, record-at, first-records, child, run-of}
+use Rattle.cards.specs.Laws.Record.{first-text, first-of-run, length-run, length-first, first-at, bytes-drop, Fitting, bytes-fitting}
 use Rattle.store.specs.Room.{store-in, laid}
-
--- Bytes: the first of a list, and two lists joined.
-
-bytes-take : (n : ℕ) {s : List ℕ} → Bytes s → Bytes (take n s)
-bytes-take zero b = none
-bytes-take (suc n) none = none
-bytes-take (suc n) (one b o) = one b (bytes-take n o)
-
-bytes-append : {s t : List ℕ} → Bytes s → Bytes t → Bytes (s ++ t)
-bytes-append none c = c
-bytes-append (one b o) c = one b (bytes-append o c)
-
--- The text of a record is the 8 bytes that it was read from, whatever stands behind them.
-
-of-eight : (s : List ℕ) → record-of (take 8 s) ≡ record-of s
-of-eight s =
-    let same : (k : ℕ) → k < 8 → getD (take 8 s) k 0 ≡ getD s k 0 = λ k l. getD-take 8 s k 0 l in
-    λ i. record {
-      kind = same 0 (omega arith) i;
-      letter = same 1 (omega arith) i;
-      mark = same 2 (omega arith) i;
-      fourth = same 3 (omega arith) i;
-      left = same 4 (omega arith) i + 256 * same 5 (omega arith) i;
-      right = same 6 (omega arith) i + 256 * same 7 (omega arith) i;
-    }
-
-eight-of : (s : List ℕ) → 8 ≤ length s → Bytes s → bytes-of (record-of s) ≡ take 8 s
-eight-of s l b = ap bytes-of (sym (of-eight s)) ∙ one-text (take 8 s) (length-take-le 8 s l) (bytes-take 8 b)
 
 -- The run of a room's store is the room's first bytes.
 pub run-in-room : (n : ℕ) (room : List ℕ) → 8 * n ≤ length room → Bytes room → run-of (store-in room n) ≡ take (8 * n) room
@@ -47,7 +20,7 @@ run-in-room zero room l b = refl
 run-in-room (suc n) room l b =
     let e : 8 + 8 * n ≡ 8 * suc n = omega arith in
     let m : 8 * n ≤ length (drop 8 room) = omega (arith, length-drop 8 room) in
-    ap₂ _++_ (eight-of room (omega arith) b) (run-in-room n (drop 8 room) m (bytes-drop 8 b))
+    ap₂ _++_ (first-text room (omega arith) b) (run-in-room n (drop 8 room) m (bytes-drop 8 b))
     ∙ sym (take-add 8 (8 * n) room)
     ∙ ap (λ (k : ℕ). take k room) e
 
@@ -91,10 +64,10 @@ bytes-run : (rs : List Record) → ((i : ℕ) → i < length rs → Fitting (chi
 unfolding run-of
 bytes-run [] f = none
 bytes-run (r ∷ rs) f =
-    bytes-append (bytes-fitting r (f zero (omega arith))) (bytes-run rs (λ i l. f (suc i) (omega arith)))
+    over-join (bytes-fitting r (f zero (omega arith))) (bytes-run rs (λ i l. f (suc i) (omega arith)))
 
 pub bytes-laid : (rs : List Record) {room : List ℕ} → ((i : ℕ) → i < length rs → Fitting (child rs i)) → Bytes room → Bytes (laid rs room)
-bytes-laid rs f b = bytes-append (bytes-run rs f) (bytes-drop (8 * length rs) b)
+bytes-laid rs f b = over-join (bytes-run rs f) (bytes-drop (8 * length rs) b)
 
 -- Bytes laid at the start of the part of a room that starts at n.
 pub put-in-part : (n : ℕ) (room eight : List ℕ) {part : List ℕ} → part ≡ eight ++ drop 8 (take (length room - n) (drop n room))

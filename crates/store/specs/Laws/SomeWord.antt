@@ -1,12 +1,12 @@
 -- Only place 0 of a good store has a language with no word. This holds where every kind is one of document 01's six: a law apart from
 -- Good, since a complement can have no word.
-use Prim.Native.Nat.{ℕ, zero, suc, _<_, _≤_}
+use Prim.Native.Nat.{ℕ, zero, suc, _<_}
 use native.Mathlib.Decide.{decLt}
 use native.Mathlib.Omega.{arith}
 use mathlib.Core.Bool.{or-true}
 use mathlib.Core.List.{List, [], _∷_, _++_}
 use mathlib.Core.Logic.{inl}
-use mathlib.Core.Path.{_≡_, refl, sym, _∙_, ap, subst}
+use mathlib.Core.Path.{_≡_, refl, sym, _∙_, ap}
 use lib.Dec.{eqb}
 use lib.ListN.{length}
 use Rattle.language.specs.Word.{Word, Bytes, none, one}
@@ -16,12 +16,10 @@ use Rattle.cards.specs.declared.record.Record.{Record}
 use Rattle.cards.specs.Record.{child}
 use Rattle.cards.specs.Kind.{kind-of}
 use Rattle.cards.specs.Mark.{bit}
-use Rattle.cards.specs.Meaning.{record-pattern, patterns, numbered}
 use Rattle.cards.specs.Standing.{Line}
 use Rattle.cards.specs.Laws.Meaning.{pattern-of-record}
 use Rattle.store.specs.declared.making.Ruled.the-variants.{Gives}
-use Rattle.store.specs.Room.{nothing-record}
-use Rattle.store.specs.Making.{placed, rule, make}
+use Rattle.store.specs.Making.{placed, rule}
 use Rattle.store.specs.Good.{Good}
 use Rattle.store.specs.Laws.Making.{make-by-a-rule, language-of-record}
 use Rattle.store.specs.Laws.Languages.{language-at, operator-over}
