@@ -10,7 +10,7 @@ use Rattle.store.specs.Room.{laid}
 use Rattle.store.specs.Loading.{Loading, loaded, no-room, after-loading}
 use Rattle.matching.specs.declared.beginning.Begun.{Begun}
 use Rattle.matching.specs.declared.beginning.Begun.the-variants.{At, Full}
-use Rattle.matching.specs.Refusals.{wrong-room}
+use Rattle.store.specs.Room.{wrong-room}
 use Rattle.matching.specs.Fits.{root}
 
 -- The card is in good standing and the room is legal.

@@ -1,18 +1,13 @@
 // The refusals of matching that need no work: the card's 1 to 3, then 4, then 5.
 use cards::examine::Standing;
 use cards::examine::examine_pattern;
-use cards::record::RECORD;
+use store::room::wrong_room;
 ghost use mathlib.Core.Path.{_≡_};
 ghost use lib.Dec.{ltb};
-ghost use Rattle.matching.specs.Refusals.{most-word, wrong-room, standing-of};
+ghost use Rattle.matching.specs.Refusals.{most-word, standing-of};
 
 // The largest number of bytes in a word.
 pub const MOST_WORD: usize = 65535;
-
-// The smallest and the largest work room, in bytes.
-pub const LEAST_ROOM: usize = 16;
-
-pub const MOST_ROOM: usize = 32768;
 
 // The first refusal, of a card, a word of so many bytes and a work room of so many.
 pub fn standing(card: &[u8], word: usize, room: usize) -> Standing
@@ -29,11 +24,4 @@ pub fn standing(card: &[u8], word: usize, room: usize) -> Standing
         return Standing::Refused(5);
     }
     Standing::Good
-}
-
-// Number 5, of a work room of so many bytes.
-pub fn wrong_room(size: usize) -> bool
-    ensures { λ t. ⌜ t ≡ wrong-room size ⌝ }
-{
-    (size < LEAST_ROOM) | (MOST_ROOM < size) | (size % RECORD != 0)
 }

@@ -9,3 +9,4 @@ pub mod Loading
 pub mod GoodRoom
 pub mod LoadingRoom
 pub mod SomeWord
+pub mod LegalRoom

@@ -1,7 +1,9 @@
 -- What stands in a work room. Document 01: "Records are in card form"; "records .. placed by then stand, .. and every other byte is as lent".
 -- A store is a list of records: the record at place n is the one numbered n. Its records are the first bytes of the room, 8 for each.
-use Prim.Native.Nat.{ℕ, _*_, _/_}
+use Prim.Native.Nat.{ℕ, _*_, _/_, _%_}
+use mathlib.Core.Bool.{Bool, not, _||_}
 use mathlib.Core.List.{List, [], _∷_, _++_}
+use lib.Dec.{eqb, ltb}
 use lib.ListN.{length, drop}
 use Rattle.cards.specs.declared.record.Record.{Record}
 use Rattle.cards.specs.Record.{first-records, run-of}
@@ -17,6 +19,17 @@ places-of room = length room / 8
 -- The room with this store in it: its records, and every other byte as lent.
 abbrev pub laid : List Record → List ℕ → List ℕ
 laid store room = run-of store ++ drop (8 * length store) room
+
+-- The smallest and the largest work room, in bytes.
+abbrev pub least-room : ℕ
+least-room = 16
+
+abbrev pub most-room : ℕ
+most-room = 32768
+
+-- Number 5, "work room under 16 bytes, over 32,768, or not a multiple of 8", of a work room of so many bytes.
+abbrev pub wrong-room : ℕ → Bool
+wrong-room size = ltb size least-room || ltb most-room size || not (eqb (size % 8) 0)
 
 -- "Every call begins a fresh store in the lent work room: place 0 is nothing, place 1 the empty word."
 abbrev pub nothing-record : Record

@@ -3,4 +3,5 @@
 pub mod finding;
 pub mod loading;
 pub mod making;
+pub mod room;
 pub mod writing;

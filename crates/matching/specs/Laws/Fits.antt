@@ -26,11 +26,13 @@ use Rattle.store.specs.Laws.Loading.{AllLoaded, LoadLaw, all-loaded, was-full, 
 use Rattle.derivative.specs.Derivative.{Deriving, derived, stopped}
 use Rattle.derivative.specs.Laws.Steps.{Done, Ended, Why, no-place, no-budget, StepLaw, was-done, was-ended}
 use Rattle.derivative.specs.Laws.Derivative.{Means}
-use Rattle.matching.specs.Refusals.{wrong-room, match-standing}
+use Rattle.store.specs.Room.{wrong-room}
+use Rattle.matching.specs.Refusals.{match-standing}
 use Rattle.matching.specs.Fits.{yes, no, refused, Told, Outcome, follow, judged, root, follow-loaded, fits-in, fits-standing, fits-outcome}
 use Rattle.matching.specs.Promise.{TrueOf}
 use Rattle.matching.specs.Along.{visits-along, visits-loaded, visits-standing, call-visits}
-use Rattle.matching.specs.Laws.Refusals.{Unrefused, unrefused, no-refusal, legal-room, some-record, good-card, at-once-number}
+use Rattle.store.specs.Laws.LegalRoom.{legal-room}
+use Rattle.matching.specs.Laws.Refusals.{Unrefused, unrefused, no-refusal, some-record, good-card, at-once-number}
 use Rattle.matching.specs.Laws.Follow.{left-of, follow-law, follow-visits, quotients-equal}
 
 -- The card was loaded.

@@ -1,12 +1,11 @@
 -- Where no refusal is due, the card is good, the word is short and the room is legal; and only then.
-use Prim.Native.Nat.{ℕ, _*_, _%_, _<_, _≤_}
+use Prim.Native.Nat.{ℕ, _*_, _<_, _≤_}
 use native.Mathlib.Omega.{arith}
-use mathlib.Core.Bool.{Bool, true, false, not, _||_, false≢true}
+use mathlib.Core.Bool.{Bool, true, false}
 use mathlib.Core.List.{List}
 use mathlib.Core.Logic.{_⊎_, inl, inr, ⊎-elim}
-use mathlib.Core.Path.{_≡_, refl, sym}
-use lib.Dec.{eqb, ltb}
-use borrow.Author.Tests.{eqb-true, ltb-false}
+use mathlib.Core.Path.{_≡_, refl}
+use lib.Dec.{ltb}
 use lib.ListN.{length}
 use Rattle.language.specs.Word.{Bytes}
 use Rattle.cards.specs.declared.examine.Standing.{Standing}
@@ -16,8 +15,9 @@ use Rattle.cards.specs.Examine.{_then_, refused-if, most-pattern-records, patte
 use Rattle.cards.specs.Laws.Record.{record-at-place, length-records, fitting-of, bytes-drop}
 use Rattle.cards.specs.Laws.Examine.{examined-right, good-right}
 use Rattle.cards.specs.Standing.{RightLength, Stands, by-1, by-2, by-3, in-good-standing}
+use Rattle.store.specs.Room.{wrong-room}
 use Rattle.store.specs.Laws.Loading.{GoodCard}
-use Rattle.matching.specs.Refusals.{most-word, least-room, most-room, wrong-room, standing-of, match-standing}
+use Rattle.matching.specs.Refusals.{most-word, standing-of, match-standing}
 
 -- The first of two standings is good, and the second.
 pub both-good : (s t : Standing) → s then t ≡ Good → (s ≡ Good) × (t ≡ Good)
@@ -27,22 +27,6 @@ both-good (Refused number) t e = let z : _≡_ {A = ℕ} 0 1 = cc in absurd (ome
 pub not-refused : (b : Bool) (number : ℕ) → refused-if b number ≡ Good → b ≡ false
 not-refused false number e = refl
 not-refused true number e = let z : _≡_ {A = ℕ} 0 1 = cc in absurd (omega arith)
-
--- A legal room.
-pub record LegalRoom (size : ℕ) : Type 0 where
-  pub enough : least-room ≤ size
-  pub not-large : size ≤ most-room
-  pub whole : size % 8 ≡ 0
-
-pub legal-room : (size : ℕ) → wrong-room size ≡ false → LegalRoom size
-legal-room size e = go (ltb size least-room) refl (ltb most-room size) refl (eqb (size % 8) 0) refl e
-  where
-    go : (a : Bool) → ltb size least-room ≡ a → (b : Bool) → ltb most-room size ≡ b → (c : Bool) → eqb (size % 8) 0 ≡ c → a || b || not c ≡ false → LegalRoom size
-    go true p b q c r f = absurd (false≢true (sym f))
-    go false p true q c r f = absurd (false≢true (sym f))
-    go false p false q false r f = absurd (false≢true (sym f))
-    go false p false q true r f =
-        record { enough = ltb-false size least-room p; not-large = ltb-false most-room size q; whole = eqb-true (size % 8) 0 r }
 
 -- A call that is not refused at once.
 pub record Unrefused (card word : List ℕ) (size : ℕ) : Type 0 where

@@ -43,7 +43,8 @@ use Rattle.matching.specs.Refusals.{standing-of}
 use Rattle.matching.specs.Fits.{yes, no, told, Outcome, follow, judged, root, follow-loaded, fits-in, fits-standing, fits-outcome}
 use Rattle.matching.specs.Promise.{Fits, Judges}
 use Rattle.matching.specs.Begin.{CanBegin, told-begun, Begins}
-use Rattle.matching.specs.Laws.Refusals.{LegalRoom, legal-room, Unrefused, unrefused, some-record, good-card}
+use Rattle.store.specs.Laws.LegalRoom.{LegalRoom, legal-room}
+use Rattle.matching.specs.Laws.Refusals.{Unrefused, unrefused, some-record, good-card}
 use Rattle.matching.specs.Laws.Follow.{left-of, follow-law, follow-visits}
 use Rattle.matching.specs.Laws.Fits.{ready, card-loaded, fits-true}
 

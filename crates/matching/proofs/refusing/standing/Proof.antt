@@ -8,7 +8,8 @@ use borrow.Author.Needs.{needs}
 use Rattle.cards.specs.declared.examine.Standing.{Standing}
 use Rattle.cards.specs.declared.examine.Standing.the-variants.{Good, Refused}
 use Rattle.cards.specs.Examine.{pattern-card}
-use Rattle.matching.specs.Refusals.{most-word, wrong-room, standing-of}
+use Rattle.store.specs.Room.{wrong-room}
+use Rattle.matching.specs.Refusals.{most-word, standing-of}
 use Rattle.matching.proofs.refusing.standing.Statement.{statement}
 use Rattle.matching.proofs.refusing.standing.Tie as tie
 

@@ -1,0 +1,5 @@
+-- What is proved of the definitions: nothing here has to be believed, each file is checked.
+pub mod Words
+pub mod Frontier
+pub mod Search
+pub mod Meaning
