@@ -4,3 +4,4 @@ pub mod InOrder
 pub mod Meaning
 pub mod Examine
 pub mod Letters
+pub mod Order

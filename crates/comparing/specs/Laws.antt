@@ -3,3 +3,6 @@ pub mod Words
 pub mod Frontier
 pub mod Search
 pub mod Meaning
+pub mod Signed
+pub mod Tried
+pub mod Compare

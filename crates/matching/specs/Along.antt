@@ -6,11 +6,10 @@ use Rattle.cards.specs.declared.examine.Standing.{Standing}
 use Rattle.cards.specs.declared.examine.Standing.the-variants.{Good, Refused}
 use Rattle.cards.specs.Record.{records}
 use Rattle.store.specs.Room.{fresh-store}
-use Rattle.store.specs.Loading.{Loading, loaded, no-room, load}
+use Rattle.store.specs.Loading.{root, Loading, loaded, no-room, load}
 use Rattle.derivative.specs.Derivative.{derived, stopped, derive}
 use Rattle.derivative.specs.Visits.{visits}
 use Rattle.matching.specs.Refusals.{standing-of, match-standing}
-use Rattle.matching.specs.Fits.{root}
 
 unfoldable pub visits-along : ℕ → List ℕ → ℕ → List Record → ℕ → ℕ
 visits-along room [] place store budget = 0

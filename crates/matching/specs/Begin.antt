@@ -7,11 +7,10 @@ use lib.ListN.{length}
 use Rattle.cards.specs.declared.examine.Standing.the-variants.{Good}
 use Rattle.cards.specs.Examine.{pattern-card}
 use Rattle.store.specs.Room.{laid}
-use Rattle.store.specs.Loading.{Loading, loaded, no-room, after-loading}
+use Rattle.store.specs.Loading.{root, Loading, loaded, no-room, after-loading}
 use Rattle.matching.specs.declared.beginning.Begun.{Begun}
 use Rattle.matching.specs.declared.beginning.Begun.the-variants.{At, Full}
 use Rattle.store.specs.Room.{wrong-room}
-use Rattle.matching.specs.Fits.{root}
 
 -- The card is in good standing and the room is legal.
 pub record CanBegin (card room : List ℕ) : Type 0 where

@@ -5,14 +5,14 @@
 use Prim.Native.Nat.{ℕ, _-_, _/_}
 use mathlib.Core.Bool.{cond}
 use mathlib.Core.List.{List, [], _∷_}
-use lib.ListN.{length, getD}
+use lib.ListN.{length}
 use Rattle.cards.specs.declared.record.Record.{Record}
 use Rattle.cards.specs.declared.examine.Standing.{Standing}
 use Rattle.cards.specs.declared.examine.Standing.the-variants.{Good, Refused}
 use Rattle.cards.specs.Record.{records, child}
 use Rattle.cards.specs.Mark.{marked}
 use Rattle.store.specs.Room.{fresh-store}
-use Rattle.store.specs.Loading.{Loading, loaded, no-room, load}
+use Rattle.store.specs.Loading.{Loading, loaded, no-room, load, root}
 use Rattle.derivative.specs.Derivative.{Deriving, derived, stopped, and-then, derive}
 use Rattle.matching.specs.declared.Match.{Match}
 use Rattle.matching.specs.declared.Match.the-variants.{Yes, No, Refused as RefusedMatch}
@@ -52,10 +52,6 @@ judged budget (derived place store left) =
     record { tells = record { says = cond (marked (child store place)) yes no; places = length store; visits = budget - left }; store = store }
 judged budget (stopped number store left) =
     record { tells = record { says = refused number; places = length store; visits = budget - left }; store = store }
-
--- The place of a card's root, of the places of its records.
-abbrev pub root : List ℕ → ℕ
-root places = getD places (length places - 1) 0
 
 -- A card that is loaded is followed by the word; number 7 where the room is full before.
 abbrev pub follow-loaded : ℕ → List ℕ → ℕ → Loading → Outcome

@@ -10,12 +10,12 @@ use Rattle.cards.specs.Record.{records, child}
 use Rattle.cards.specs.Mark.{bit}
 use Rattle.cards.specs.Meaning.{patterns, numbered}
 use Rattle.cards.specs.Standing.{Obeys}
-use Rattle.store.specs.Room.{store-in, nothing-record, empty-word-record}
+use Rattle.store.specs.Room.{store-in, most-room, nothing-record, empty-word-record}
 use Rattle.store.specs.Making.{Making, placed, make}
 
--- The largest number of places: document 01 lends at most 32,768 bytes.
+-- The largest number of places: those of the largest work room.
 abbrev pub most-places : ℕ
-most-places = 4096
+most-places = most-room / 8
 
 -- Making a record again from its own kind, letter and children.
 abbrev pub make-again : ℕ → List Record → Record → Making

@@ -10,3 +10,4 @@ pub mod GoodRoom
 pub mod LoadingRoom
 pub mod SomeWord
 pub mod LegalRoom
+pub mod Cards

@@ -1,7 +1,7 @@
 -- Loading a card. Document 01: "Loading a card makes its records in order."
-use Prim.Native.Nat.{ℕ}
+use Prim.Native.Nat.{ℕ, _-_}
 use mathlib.Core.List.{List, [], _∷_, _++_}
-use lib.ListN.{getD}
+use lib.ListN.{length, getD}
 use Rattle.cards.specs.declared.kind.Kind.{Kind}
 use Rattle.cards.specs.declared.kind.Kind.the-variants.{Nothing, EmptyWord, Letter, Choice, Sequence, Repeat, Unknown}
 use Rattle.cards.specs.declared.record.Record.{Record}
@@ -56,3 +56,7 @@ load room store card = load-after room store [] card
 abbrev pub after-loading : Loading → List Record
 after-loading (loaded places store) = store
 after-loading (no-room store) = store
+
+-- The place of a card's root, the last record, of the places of its records.
+abbrev pub root : List ℕ → ℕ
+root places = getD places (length places - 1) 0

@@ -7,7 +7,7 @@ ghost use mathlib.Core.List.{[], _∷_, _++_};
 ghost use Prim.Native.Nat.{_+_, _*_, _≤_};
 ghost use lib.ListN.{length};
 ghost use Rattle.store.specs.Room.{store-in, laid};
-ghost use Rattle.store.specs.Good.{GoodStore};
+ghost use Rattle.store.specs.Good.{GoodStore, most-places};
 
 // The record writer is lent the part of the room that starts at the first free place.
 pub fn write(room: &mut [u8], places: usize, r: Record)
@@ -21,7 +21,7 @@ pub fn write(room: &mut [u8], places: usize, r: Record)
 
 // Where the first free place starts.
 fn start_of(places: usize) -> usize
-    requires { ⌜ places ≤ 4096 ⌝ }
+    requires { ⌜ places ≤ most-places ⌝ }
     ensures { λ s. ⌜ s ≡ 8 * places ⌝ }
 {
     RECORD * places

@@ -1,5 +1,5 @@
 -- The outcome of matching: what it means, what is told, and that it takes just enough.
-use Prim.Native.Nat.{ℕ, _+_, _-_, _/_, _<_, _≤_}
+use Prim.Native.Nat.{ℕ, _+_, _-_, _/_, _≤_}
 use native.Mathlib.Omega.{arith}
 use mathlib.Core.Bool.{Bool, true, false, cond, false≢true}
 use mathlib.Core.List.{List, []}
@@ -17,29 +17,24 @@ use Rattle.cards.specs.Record.{records, child}
 use Rattle.cards.specs.Mark.{marked}
 use Rattle.cards.specs.Meaning.{patterns, numbered, card-pattern}
 use Rattle.store.specs.Room.{fresh-store}
-use Rattle.store.specs.Loading.{Loading, load}
+use Rattle.store.specs.Loading.{root, Loading, load}
 use Rattle.store.specs.Laws.Wall.{Ready, Filled, grows-length, anew}
 use Rattle.store.specs.Laws.Making.{marked-nullable}
 use Rattle.store.specs.Laws.Languages.{language-at}
 use Rattle.store.specs.Laws.Fresh.{fresh-ready}
-use Rattle.store.specs.Laws.Loading.{AllLoaded, LoadLaw, all-loaded, was-full, load-law}
+use Rattle.store.specs.Laws.Cards.{good-card, CardLoaded, card-loaded}
+use Rattle.store.specs.Laws.Loading.{LoadLaw, all-loaded, was-full, load-law}
 use Rattle.derivative.specs.Derivative.{Deriving, derived, stopped}
 use Rattle.derivative.specs.Laws.Steps.{Done, Ended, Why, no-place, no-budget, StepLaw, was-done, was-ended}
 use Rattle.derivative.specs.Laws.Derivative.{Means}
 use Rattle.store.specs.Room.{wrong-room}
 use Rattle.matching.specs.Refusals.{match-standing}
-use Rattle.matching.specs.Fits.{yes, no, refused, Told, Outcome, follow, judged, root, follow-loaded, fits-in, fits-standing, fits-outcome}
+use Rattle.matching.specs.Fits.{yes, no, refused, Told, Outcome, follow, judged, follow-loaded, fits-in, fits-standing, fits-outcome}
 use Rattle.matching.specs.Promise.{TrueOf}
 use Rattle.matching.specs.Along.{visits-along, visits-loaded, visits-standing, call-visits}
 use Rattle.store.specs.Laws.LegalRoom.{legal-room}
-use Rattle.matching.specs.Laws.Refusals.{Unrefused, unrefused, no-refusal, some-record, good-card, at-once-number}
+use Rattle.matching.specs.Laws.Refusals.{Unrefused, unrefused, no-refusal, at-once-number}
 use Rattle.matching.specs.Laws.Follow.{left-of, follow-law, follow-visits, quotients-equal}
-
--- The card was loaded.
-pub record CardLoaded (card : List ℕ) (room : ℕ) (places : List ℕ) (store : List Record) : Type 0 where
-  pub law : AllLoaded room (records card) fresh-store [] (records card) places store
-  pub inside : root places < length store
-  pub means : Equal (language-at store (root places)) (language (card-pattern card))
 
 -- How a call comes to its outcome.
 pub data Call (card word : List ℕ) (size budget : ℕ) : Outcome → Type 0 where
@@ -47,12 +42,12 @@ pub data Call (card word : List ℕ) (size budget : ℕ) : Outcome → Type 0 wh
       → Call card word size budget (record { tells = record { says = refused number; places = 0; visits = 0 }; store = [] })
   full-in-loading : Unrefused card word size → {store : List Record} → Filled (size / 8) fresh-store store
       → Call card word size budget (record { tells = record { says = refused 7; places = length store; visits = 0 }; store = store })
-  stopped-on-the-way : Unrefused card word size → {places : List ℕ} {store : List Record} → CardLoaded card (size / 8) places store
+  stopped-on-the-way : Unrefused card word size → {places : List ℕ} {store : List Record} → CardLoaded card (size / 8) fresh-store places store
       → {number : ℕ} {store′ : List Record} {left : ℕ}
       → follow (size / 8) word (root places) store budget ≡ stopped number store′ left
       → Ended (size / 8) store budget (visits-along (size / 8) word (root places) store budget) number store′ left
       → Call card word size budget (judged budget (stopped number store′ left))
-  answered : Unrefused card word size → {places : List ℕ} {store : List Record} → CardLoaded card (size / 8) places store
+  answered : Unrefused card word size → {places : List ℕ} {store : List Record} → CardLoaded card (size / 8) fresh-store places store
       → {place : ℕ} {store′ : List Record} {left : ℕ}
       → follow (size / 8) word (root places) store budget ≡ derived place store′ left
       → Done (λ r s b. follow r word (root places) s b) (size / 8) store budget (visits-along (size / 8) word (root places) store budget)
@@ -69,28 +64,13 @@ module _ (card word : List ℕ) (cards : Bytes card) (letters : Bytes word) (siz
         let b = l .not-large in
         fresh-ready (size / 8) (omega arith) (omega arith)
 
-    pub card-loaded : {places : List ℕ} {store : List Record} → AllLoaded (size / 8) (records card) fresh-store [] (records card) places store
-        → CardLoaded card (size / 8) places store
-    unfolding card-pattern
-    card-loaded {places} {store} a =
-        let n = a .count in
-        let some = some-record card (u .card-good) in
-        let last : length places - 1 < length places = omega arith in
-        record {
-          law = a;
-          inside = a .standing .inside (length places - 1) last;
-          means =
-              subst (λ (k : ℕ). Equal (language-at store (root places)) (language (numbered (patterns (records card)) (k - 1)))) n
-              (a .standing .means (length places - 1) last);
-        }
-
     after-load : {l : Loading} → LoadLaw (size / 8) (records card) fresh-store [] (records card) l → Call card word size budget (follow-loaded (size / 8) word budget l)
     after-load (was-full f) = full-in-loading u f
     after-load (all-loaded {places′ = places} {store′ = store} a) =
-        let c = card-loaded a in
+        let c = card-loaded card (u .card-good) a in
         followed c refl (follow-law letters (size / 8) (root places) store budget (c .inside) (a .kept .ready))
       where
-        followed : CardLoaded card (size / 8) places store → {d : Deriving} → follow (size / 8) word (root places) store budget ≡ d
+        followed : CardLoaded card (size / 8) fresh-store places store → {d : Deriving} → follow (size / 8) word (root places) store budget ≡ d
             → StepLaw (λ r s b. follow r word (root places) s b) (size / 8) store budget (visits-along (size / 8) word (root places) store budget)
             (Means (Quotients word (language-at store (root places)))) d
             → Call card word size budget (judged budget d)
@@ -117,7 +97,7 @@ says-by-mark true = (λ e. refl, λ e. let z : _≡_ {A = ℕ} 0 1 = cc in absur
 says-by-mark false = (λ e. let z : _≡_ {A = ℕ} 0 1 = cc in absurd (omega arith), λ e. refl)
 
 module _ (card word : List ℕ) (letters : Bytes word) {room : ℕ} {places : List ℕ} {store store′ : List Record} {budget cost place left : ℕ}
-    (c : CardLoaded card room places store)
+    (c : CardLoaded card room fresh-store places store)
     (d : Done (λ r s b. follow r word (root places) s b) room store budget cost (Means (Quotients word (language-at store (root places)))) place store′ left) where
   -- The place reached has the quotient of the card's language by the word.
   reached : Equal (language-at store′ place) (Quotients word (language (card-pattern card)))
@@ -229,7 +209,7 @@ call-visits-told : (card word : List ℕ) → Bytes card → Bytes word → (siz
     → follow-loaded (size / 8) word budget l .tells .visits ≡ visits-loaded (size / 8) word budget l
 call-visits-told card word cards letters size budget u (was-full f) = refl
 call-visits-told card word cards letters size budget u (all-loaded {places′ = places} {store′ = store} a) =
-    let c = card-loaded card word cards letters size budget u a in
+    let c = card-loaded card (u .card-good) a in
     judged-visits (follow (size / 8) word (root places) store budget)
     (follow-visits letters (size / 8) (root places) store budget (c .inside) (a .kept .ready))
   where
@@ -255,7 +235,7 @@ fits-visits card word cards letters size budget = go (match-standing card word s
 -- at least n places with a budget of at least v.
 
 -- In a legal room that holds what is told, with a budget that pays it, the outcome is the same.
-enough-loaded : (card word : List ℕ) (size budget : ℕ) → Unrefused card word size → {places : List ℕ} {store : List Record} → CardLoaded card (size / 8) places store
+enough-loaded : (card word : List ℕ) (size budget : ℕ) → Unrefused card word size → {places : List ℕ} {store : List Record} → CardLoaded card (size / 8) fresh-store places store
     → {place : ℕ} {store′ : List Record} {left : ℕ}
     → Done (λ r s b. follow r word (root places) s b) (size / 8) store budget (visits-along (size / 8) word (root places) store budget)
     (Means (Quotients word (language-at store (root places)))) place store′ left

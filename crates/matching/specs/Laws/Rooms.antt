@@ -21,7 +21,7 @@ use Rattle.cards.specs.Laws.Examine.{examined-right, good-right}
 use Rattle.store.specs.declared.loading.Loaded.{Loaded}
 use Rattle.store.specs.declared.loading.Loaded.the-variants.{All, Full as AllFull}
 use Rattle.store.specs.Room.{store-in, places-of, laid, fresh-store}
-use Rattle.store.specs.Loading.{Loading, loaded, no-room, load, after-loading}
+use Rattle.store.specs.Loading.{root, Loading, loaded, no-room, load, after-loading}
 use Rattle.store.specs.Told.{told-loading, Mapped}
 use Rattle.store.specs.Good.{most-places, GoodStore, Loadable}
 use Rattle.store.specs.Laws.Room.{laid-same, laid-laid, store-of-laid, length-laid, bytes-laid}
@@ -40,13 +40,14 @@ use Rattle.matching.specs.declared.Match.the-variants.{Yes, No, Refused 
 use Rattle.matching.specs.declared.beginning.Begun.{Begun}
 use Rattle.matching.specs.declared.beginning.Begun.the-variants.{At as BegunAt, Full}
 use Rattle.matching.specs.Refusals.{standing-of}
-use Rattle.matching.specs.Fits.{yes, no, told, Outcome, follow, judged, root, follow-loaded, fits-in, fits-standing, fits-outcome}
+use Rattle.matching.specs.Fits.{yes, no, told, Outcome, follow, judged, follow-loaded, fits-in, fits-standing, fits-outcome}
 use Rattle.matching.specs.Promise.{Fits, Judges}
 use Rattle.matching.specs.Begin.{CanBegin, told-begun, Begins}
 use Rattle.store.specs.Laws.LegalRoom.{LegalRoom, legal-room}
-use Rattle.matching.specs.Laws.Refusals.{Unrefused, unrefused, some-record, good-card}
+use Rattle.matching.specs.Laws.Refusals.{Unrefused, unrefused}
+use Rattle.store.specs.Laws.Cards.{some-record, good-card, card-loaded}
 use Rattle.matching.specs.Laws.Follow.{left-of, follow-law, follow-visits}
-use Rattle.matching.specs.Laws.Fits.{ready, card-loaded, fits-true}
+use Rattle.matching.specs.Laws.Fits.{ready, fits-true}
 
 -- A slice of bytes.
 pub bytes-all : (s : List ℕ) → ((i : ℕ) → getD s i 0 < 256) → Bytes s
@@ -495,7 +496,7 @@ module _ (card word room : List ℕ) (budget : ℕ) (cards : Bytes card) (letter
                     taken-is = cc;
                     room-is = w;
                     kept = h .kept;
-                    inside = card-loaded card word cards letters (length room) budget not-refused h .inside;
+                    inside = card-loaded card (not-refused .card-good) h .inside;
                   }
               go (was-full h) a w = absurd (not-both-begun f a)
 
