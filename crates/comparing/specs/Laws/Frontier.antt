@@ -56,7 +56,7 @@ abbrev pub Again : List Record → ℕ → ℕ → ℕ → Type 0
 Again store letter from to =
     (grown : List Record) → Grows store grown → (room rest : ℕ) → derive room letter from grown (visits store from + rest) ≡ derived to grown rest
 
-again-grows : {store store′ : List Record} (letter from to : ℕ) → Grows store store′ → from < length store → Again store letter from to → Again store′ letter from to
+pub again-grows : {store store′ : List Record} (letter from to : ℕ) → Grows store store′ → from < length store → Again store letter from to → Again store′ letter from to
 again-grows letter from to g l h =
     λ grown k room rest. rw (visits-kept g from l) (h grown (grows-trans g k) room rest)
 

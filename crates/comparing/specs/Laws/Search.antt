@@ -111,13 +111,13 @@ one-at {A} {B} {store} g x y l m e v a b = go (marked (child store x)) refl (mar
     go false p false q f = absurd (false≢true (sym f))
 
 -- Where the two places stand in the table as a pair.
-record StandsAt (table : List Pair) (x y : ℕ) : Type 0 where
-  at : ℕ
-  inside : at < length table
-  left : pair-at table at .left ≡ x
-  right : pair-at table at .right ≡ y
+pub record StandsAt (table : List Pair) (x y : ℕ) : Type 0 where
+  pub at : ℕ
+  pub inside : at < length table
+  pub left : pair-at table at .left ≡ x
+  pub right : pair-at table at .right ≡ y
 
-stands-at : (table : List Pair) (x y : ℕ) → stands-in table x y ≡ true → StandsAt table x y
+pub stands-at : (table : List Pair) (x y : ℕ) → stands-in table x y ≡ true → StandsAt table x y
 unfolding stands-in
 stands-at [] x y e = absurd (false≢true e)
 stands-at (p ∷ table) x y e = go (eqb (p .left) x && eqb (p .right) y) refl (stands-at table x y) e
@@ -134,7 +134,7 @@ stands-at (p ∷ table) x y e = go (eqb (p .left) x && eqb (p .right) y) refl (s
         let h = later g in
         record { at = suc (h .at); inside = suc-le-suc (h .inside); left = h .left; right = h .right }
 
-same-mark : (p q : Bool) → Bool·beq p q ≡ true → p ≡ q
+pub same-mark : (p q : Bool) → Bool·beq p q ≡ true → p ≡ q
 same-mark true true e = refl
 same-mark true false e = absurd (false≢true e)
 same-mark false true e = absurd (false≢true e)
@@ -144,7 +144,7 @@ halts : {room pairs : ℕ} {store : List Record} {table : List Pair} {budget num
 halts (no-place h) = no-free-place h
 halts (no-budget h) = nothing-left h
 
-marks-kept : {store store′ : List Record} → Grows store store′ → (place : ℕ) → place < length store → marked (child store′ place) ≡ marked (child store place)
+pub marks-kept : {store store′ : List Record} → Grows store store′ → (place : ℕ) → place < length store → marked (child store′ place) ≡ marked (child store place)
 marks-kept {store} g place l = ap marked (ap (λ (s : List Record). child s place) (g .is) ∙ List·getD-append store (g .more) _ place l)
 
 -- Letters that rise: each below those behind it.

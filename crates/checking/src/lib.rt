@@ -1,0 +1,1 @@
+// Definitions and laws alone so far: see specs/.
