@@ -18,7 +18,7 @@ pub struct Record {
 }
 
 // Two bytes as one number, low byte first.
-fn joined(low: u8, high: u8) -> u16
+pub fn joined(low: u8, high: u8) -> u16
     ensures { λ r. ⌜ r ≡ low + 256 * high ⌝ }
 {
     (low as u16) + 256 * (high as u16)

@@ -8,7 +8,8 @@ use Rattle.cards.specs.declared.record.Record.{Record}
 use Rattle.cards.specs.Record.{child}
 use Rattle.cards.specs.Mark.{marked}
 use Rattle.derivative.specs.Derivative.{derived, stopped, derive}
-use Rattle.comparing.specs.Pair.{Pair, stands-in}
+use Rattle.pairs.specs.declared.pair.Pair.{Pair}
+use Rattle.pairs.specs.Pair.{stands-in}
 
 -- Where a list fails: at the opening pair, at the marks of the pair numbered n, or at that pair by a letter.
 pub data Point : Type 0 where

@@ -1,1 +1,51 @@
-// Definitions and laws alone so far: see specs/.
+// Checking: does a list of pairs prove that two cards' patterns allow the same words? `check` takes any bytes and asks nothing of its caller.
+// The definitions that its promise cites stand in specs/; specs/Lib.antt lists them.
+use crate::loading::check_opened;
+use crate::refusing::standing;
+use cards::examine::Standing;
+use pairs::letters::MOST_LETTERS;
+use pairs::letters::tried;
+use pairs::opening::Opened;
+use pairs::opening::open_both;
+ghost use Rattle.checking.specs.Promise.{Checks};
+
+pub mod checking;
+pub mod listing;
+pub mod loading;
+pub mod naming;
+pub mod refusing;
+
+// The answer, with the places taken and the visits made; a rejection also with its point, a refusal with its number.
+pub enum Checked {
+    Accepted(usize, u32),
+    OpeningMissing(usize, u32),
+    MarksDiffer(usize, usize, u32),
+    NotListed(usize, u8, usize, u32),
+    Refused(u8, usize, u32),
+}
+
+// Whether the list, of pairs of the proof card's records, proves the two pattern cards' languages equal.
+pub fn check(
+    left: &[u8],
+    right: &[u8],
+    proof: &[u8],
+    list: &[u8],
+    room: &mut [u8],
+    budget: u32,
+) -> Checked
+    ensures { λ c. ⌜ Checks (now (left .entry)) (now (right .entry)) (now (proof .entry)) (now (list .entry)) (now (room .entry)) budget c (now (room .exit)) ⌝ }
+{
+    let found = standing(left, right, proof, list, room.len());
+    if let Standing::Refused(number) = found {
+        return Checked::Refused(number, 0, 0);
+    }
+    let mut letters = [0u8; MOST_LETTERS];
+    let count = tried(left, right, &mut letters);
+    let opened = open_both(left, right, room);
+    match opened {
+        Opened::At(x, y, taken) => {
+            check_opened(room, taken, proof, list, &letters[0..count], x, y, budget)
+        }
+        Opened::Full(taken) => Checked::Refused(7, taken, 0),
+    }
+}

@@ -11,7 +11,9 @@ use Rattle.cards.specs.declared.record.Record.{Record}
 use Rattle.cards.specs.Record.{child}
 use Rattle.cards.specs.Mark.{marked}
 use Rattle.derivative.specs.Derivative.{derived, stopped as unfinished, derive}
-use Rattle.comparing.specs.Pair.{Pair, pair-at, stands-in, word-of}
+use Rattle.pairs.specs.declared.pair.Pair.{Pair}
+use Rattle.pairs.specs.Pair.{pair-at, stands-in}
+use Rattle.comparing.specs.ReadOff.{word-of}
 
 -- What a search comes to, with the store, the table and the budget left: same; different, by a word, and whether the left side has
 -- it; or stopped by a number.

@@ -3,3 +3,4 @@ pub mod Steps
 pub mod Visits
 pub mod Derivative
 pub mod Rooms
+pub mod Both

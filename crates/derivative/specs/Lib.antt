@@ -1,7 +1,8 @@
 -- The derivative over a store's places.
 -- To be believed: Derivative (the fixed order, with budget and number 8), Visits, Told (what the code
--- answers of a derivation). Proved of them: everything below Laws.
+-- answers of a derivation). Both is named by inner contracts alone. Proved of them: everything below Laws.
 pub mod Derivative
 pub mod Visits
+pub mod Both
 pub mod Told
 pub mod Laws

@@ -9,7 +9,10 @@ use Rattle.store.specs.declared.making.Made.the-variants.{Placed, Full}
 use Rattle.store.specs.Room.{laid}
 use Rattle.derivative.specs.declared.Derived.{Derived}
 use Rattle.derivative.specs.declared.Derived.the-variants.{At, Stopped}
+use Rattle.derivative.specs.declared.both.Both.{Both}
+use Rattle.derivative.specs.declared.both.Both.the-variants.{At as BothAt, Stopped as OneStopped}
 use Rattle.derivative.specs.Derivative.{Deriving, derived, stopped}
+use Rattle.derivative.specs.Both.{DerivingBoth, both-derived, one-stopped}
 
 abbrev pub told-deriving : Deriving → Derived
 told-deriving (derived place store budget) = At place (length store) budget
@@ -29,3 +32,16 @@ pub record Comes (room : List ℕ) (d : Deriving) (answer : Derived) (room′ : 
 abbrev pub of-made : Made → ℕ → Derived
 of-made (Placed place taken) budget = At place taken budget
 of-made (Full taken) budget = Stopped 7 taken budget
+
+-- The same of two places derived by one letter.
+abbrev pub told-both : DerivingBoth → Both
+told-both (both-derived x y store budget) = BothAt x y (length store) budget
+told-both (one-stopped number store budget) = OneStopped number (length store) budget
+
+abbrev pub after-both : DerivingBoth → List Record
+after-both (both-derived x y store budget) = store
+after-both (one-stopped number store budget) = store
+
+pub record BothCome (room : List ℕ) (d : DerivingBoth) (answer : Both) (room′ : List ℕ) : Type 0 where
+  pub answers : answer ≡ told-both d
+  pub leaves : room′ ≡ laid (after-both d) room

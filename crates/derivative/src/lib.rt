@@ -16,6 +16,8 @@ ghost use Rattle.store.specs.Good.{GoodStore};
 ghost use Rattle.derivative.specs.Derivative.{price, choice-with, derive-choice, after-product, with-product, derive-sequence, derive-repeat, derive-to};
 ghost use Rattle.derivative.specs.Told.{Comes, of-made};
 
+pub mod both;
+
 // The numbers of the two kinds that a derivative makes.
 const CHOICE: u8 = 3;
 

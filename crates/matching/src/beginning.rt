@@ -1,9 +1,7 @@
-// Beginning a call on one card: a fresh store, and the card loaded into it.
-use cards::examine::MOST_PATTERN_RECORDS;
-use cards::record::RECORD;
-use store::loading::Loaded;
+// Beginning a call on one card: a fresh store, and the card entered into it.
+use store::entering::Entered;
+use store::entering::enter;
 use store::loading::fresh;
-use store::loading::load;
 ghost use mathlib.Core.Path.{_≡_};
 ghost use Rattle.cards.specs.Record.{records};
 ghost use Rattle.store.specs.Room.{places-of, fresh-store};
@@ -21,13 +19,9 @@ pub fn begin(card: &[u8], room: &mut [u8]) -> Begun
     ensures { λ b. ⌜ Begins (now (room .entry)) (load (places-of (now (room .entry))) fresh-store (records (now (card .entry)))) b (now (room .exit)) ⌝ }
 {
     let places = fresh(room);
-    let mut map = [0u16; MOST_PATTERN_RECORDS];
-    let loaded = load(room, places, card, &mut map);
-    match loaded {
-        Loaded::All(taken) => {
-            let last = card.len() / RECORD - 1;
-            Begun::At(map[last] as usize, taken)
-        }
-        Loaded::Full(taken) => Begun::Full(taken),
+    let entered = enter(room, places, card);
+    match entered {
+        Entered::At(place, taken) => Begun::At(place, taken),
+        Entered::Full(taken) => Begun::Full(taken),
     }
 }

@@ -8,6 +8,10 @@ pub mod Fresh
 pub mod Loading
 pub mod GoodRoom
 pub mod LoadingRoom
+pub mod Entering
 pub mod SomeWord
 pub mod LegalRoom
 pub mod Cards
+pub mod FreshRoom
+pub mod OwnPlaces
+pub mod OwnCard

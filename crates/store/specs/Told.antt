@@ -8,7 +8,10 @@ use Rattle.store.specs.declared.making.Made.the-variants.{Placed, Full}
 use Rattle.store.specs.declared.loading.Loaded.{Loaded}
 use Rattle.store.specs.declared.loading.Loaded.the-variants.{All, Full as AllFull}
 use Rattle.store.specs.Making.{Making, placed, full}
-use Rattle.store.specs.Loading.{Loading, loaded, no-room}
+use Rattle.store.specs.declared.entering.Entered.{Entered}
+use Rattle.store.specs.declared.entering.Entered.the-variants.{At, Full as NotEntered}
+use Rattle.store.specs.Room.{laid}
+use Rattle.store.specs.Loading.{Loading, loaded, no-room, after-loading, root}
 
 abbrev pub told-making : Making → Made
 told-making (placed place store) = Placed place (length store)
@@ -22,3 +25,13 @@ told-loading (no-room store) = AllFull (length store)
 abbrev pub Mapped : Loading → List ℕ → Type 0
 Mapped (loaded places store) map = take (length places) map ≡ places
 Mapped (no-room store) map = Unit {0}
+
+-- Entering a card answers the place of its root.
+abbrev pub told-entering : Loading → Entered
+told-entering (loaded places store) = At (root places) (length store)
+told-entering (no-room store) = NotEntered (length store)
+
+-- The answer tells what loading comes to, and the room holds its store.
+pub record Enters (room : List ℕ) (l : Loading) (answer : Entered) (room′ : List ℕ) : Type 0 where
+  pub answers : answer ≡ told-entering l
+  pub leaves : room′ ≡ laid (after-loading l) room

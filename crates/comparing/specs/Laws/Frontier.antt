@@ -25,7 +25,9 @@ use Rattle.store.specs.Laws.Languages.{language-at}
 use Rattle.derivative.specs.Derivative.{derived, derive}
 use Rattle.derivative.specs.Visits.{visits}
 use Rattle.derivative.specs.Laws.Visits.{visits-kept}
-use Rattle.comparing.specs.Pair.{Pair, pair-at, word-to, word-of}
+use Rattle.pairs.specs.declared.pair.Pair.{Pair}
+use Rattle.pairs.specs.Pair.{pair-at}
+use Rattle.comparing.specs.ReadOff.{word-to, word-of}
 use Rattle.comparing.specs.Laws.Words.{Ordered, pair-kept, pair-new, word-step, word-kept, ordered-more, word-new}
 
 -- No later in the order.

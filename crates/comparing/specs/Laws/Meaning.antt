@@ -14,9 +14,12 @@ use Rattle.language.specs.Laws.StandIn.{Represented, in-neither, by-stand-in, e
 use Rattle.cards.specs.declared.record.Record.{Record}
 use Rattle.store.specs.Good.{Good}
 use Rattle.store.specs.Laws.Languages.{language-at}
-use Rattle.comparing.specs.Pair.{Pair, pair-at, word-to}
+use Rattle.pairs.specs.declared.pair.Pair.{Pair}
+use Rattle.pairs.specs.Pair.{pair-at}
+use Rattle.comparing.specs.ReadOff.{word-to}
 use Rattle.comparing.specs.Laws.Frontier.{lower-pair, Frontier, before-not-after}
-use Rattle.comparing.specs.Laws.Search.{Alike, mark-tells}
+use Rattle.comparing.specs.Promise.{Alike}
+use Rattle.comparing.specs.Laws.Search.{mark-tells}
 
 -- A line of the table.
 record LineOf (table : List Pair) : Type 0 where

@@ -32,20 +32,15 @@ use Rattle.derivative.specs.Visits.{visits}
 use Rattle.derivative.specs.Laws.Steps.{Done, Why, no-place, no-budget, StepLaw, was-done, was-ended}
 use Rattle.derivative.specs.Laws.Visits.{visits-kept}
 use Rattle.derivative.specs.Laws.Derivative.{Means, derive-law}
-use Rattle.comparing.specs.Pair.{Pair, pair-at, stands-in, word-to, word-of}
+use Rattle.pairs.specs.declared.pair.Pair.{Pair}
+use Rattle.pairs.specs.Pair.{pair-at, stands-in, StandsAt}
+use Rattle.pairs.specs.Laws.Table.{stands-at}
+use Rattle.pairs.specs.Laws.Tried.{Rising, rising-above, rising-below}
+use Rattle.comparing.specs.ReadOff.{word-to, word-of}
 use Rattle.comparing.specs.Search.{Search, same, different, stopped, Going, on, ends, look, by-letter, by-letters, take-pairs, search}
+use Rattle.comparing.specs.Promise.{Alike, OnlyOne, only-left, only-right}
 use Rattle.comparing.specs.Laws.Words.{word-short}
 use Rattle.comparing.specs.Laws.Frontier.{quotients-more, Earlier, lower-pair, letter-done, Again, Entry, Frontier, frontier-grows, letter-leads, pair-taken, words-before, pair-placed, covered}
-
--- A word is in both languages or in neither.
-pub record Alike (A B : Language) (v : Word) : Type 0 where
-  pub to : A v → B v
-  pub from : B v → A v
-
--- The word is in exactly one language, on the side told.
-pub data OnlyOne (A B : Language) (word : Word) : Bool → Type 0 where
-  only-left : A word → (B word → ⊥) → OnlyOne A B word true
-  only-right : (A word → ⊥) → B word → OnlyOne A B word false
 
 -- Why a search stops.
 pub data Halts (room pairs : ℕ) (store : List Record) (table : List Pair) (budget : ℕ) : ℕ → Type 0 where
@@ -110,67 +105,18 @@ one-at {A} {B} {store} g x y l m e v a b = go (marked (child store x)) refl (mar
         (quotients-from B v (b .to [] none (ty .sound q)))
     go false p false q f = absurd (false≢true (sym f))
 
--- Where the two places stand in the table as a pair.
-pub record StandsAt (table : List Pair) (x y : ℕ) : Type 0 where
-  pub at : ℕ
-  pub inside : at < length table
-  pub left : pair-at table at .left ≡ x
-  pub right : pair-at table at .right ≡ y
-
-pub stands-at : (table : List Pair) (x y : ℕ) → stands-in table x y ≡ true → StandsAt table x y
-unfolding stands-in
-stands-at [] x y e = absurd (false≢true e)
-stands-at (p ∷ table) x y e = go (eqb (p .left) x && eqb (p .right) y) refl (stands-at table x y) e
-  where
-    go : (b : Bool) → eqb (p .left) x && eqb (p .right) y ≡ b → (stands-in table x y ≡ true → StandsAt table x y) → b || stands-in table x y ≡ true → StandsAt (p ∷ table) x y
-    go true f later g =
-        record {
-          at = 0;
-          inside = omega arith;
-          left = eqb-true (p .left) x (and-left (eqb (p .left) x) (eqb (p .right) y) f);
-          right = eqb-true (p .right) y (and-right (eqb (p .left) x) (eqb (p .right) y) f);
-        }
-    go false f later g =
-        let h = later g in
-        record { at = suc (h .at); inside = suc-le-suc (h .inside); left = h .left; right = h .right }
-
 pub same-mark : (p q : Bool) → Bool·beq p q ≡ true → p ≡ q
 same-mark true true e = refl
 same-mark true false e = absurd (false≢true e)
 same-mark false true e = absurd (false≢true e)
 same-mark false false e = refl
 
-halts : {room pairs : ℕ} {store : List Record} {table : List Pair} {budget number : ℕ} → Why room store budget number → Halts room pairs store table budget number
+pub halts : {room pairs : ℕ} {store : List Record} {table : List Pair} {budget number : ℕ} → Why room store budget number → Halts room pairs store table budget number
 halts (no-place h) = no-free-place h
 halts (no-budget h) = nothing-left h
 
 pub marks-kept : {store store′ : List Record} → Grows store store′ → (place : ℕ) → place < length store → marked (child store′ place) ≡ marked (child store place)
 marks-kept {store} g place l = ap marked (ap (λ (s : List Record). child s place) (g .is) ∙ List·getD-append store (g .more) _ place l)
-
--- Letters that rise: each below those behind it.
-pub data Rising : List ℕ → Type 0 where
-  none-rise : Rising []
-  rises : {c : ℕ} {l : List ℕ} → ((d : ℕ) → Listed l d → c < d) → Rising l → Rising (c ∷ l)
-
-rising-above : (done : List ℕ) (c : ℕ) (rest : List ℕ) → Rising (done ++ c ∷ rest) → (d : ℕ) → Listed done d → d < c
-rising-above [] c rest r d m = absurd (List·Memᴰ·not-nil m)
-rising-above (a ∷ done) c rest (rises h r) d m =
-    ⊎-elim (λ e. let l = h c (Memᴰ·append-right done (List·Memᴰ·head refl)) in omega arith)
-    (λ k. rising-above done c rest r d k)
-    (List·Memᴰ·cases-cons m)
-
-rising-tail : (done : List ℕ) (c : ℕ) (rest : List ℕ) → Rising (done ++ c ∷ rest) → (d : ℕ) → Listed rest d → c < d
-rising-tail [] c rest (rises h r) d m = h d m
-rising-tail (a ∷ done) c rest (rises h r) d m = rising-tail done c rest r d m
-
-rising-below : (done : List ℕ) (c : ℕ) (rest : List ℕ) → Rising (done ++ c ∷ rest) → (d : ℕ) → Listed (done ++ c ∷ rest) d → d < c → Listed done d
-rising-below done c rest r d m l =
-    ⊎-elim (λ k. k)
-    (λ k.
-    ⊎-elim (λ e. absurd (omega arith))
-    (λ j. let h = rising-tail done c rest r d j in absurd (omega arith))
-    (List·Memᴰ·cases-cons k))
-    (List·Memᴰ·append-cases done m)
 
 -- How a search goes on, or ends: the frontier at the pair n with these letters done.
 data Goes (room pairs : ℕ) (letters : List ℕ) (A B : Language) (store₀ : List Record) (n : ℕ) (done : List ℕ) : Going → Type 0 where

@@ -6,7 +6,9 @@ use mathlib.Core.List.{List, [], _∷_, _++_}
 use mathlib.Core.Path.{_≡_, refl, _∙_, ap}
 use lib.ListN.{length, length-append, List·getD-append}
 use lib.Seq.{getD-append-seam}
-use Rattle.comparing.specs.Pair.{Pair, no-pair, pair-at, word-to, word-of}
+use Rattle.pairs.specs.declared.pair.Pair.{Pair}
+use Rattle.pairs.specs.Pair.{no-pair, pair-at}
+use Rattle.comparing.specs.ReadOff.{word-to, word-of}
 
 -- Every pair but the opening one came from a pair with a lower number.
 pub record Ordered (table : List Pair) : Type 0 where

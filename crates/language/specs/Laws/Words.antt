@@ -1,7 +1,8 @@
 -- Words whose letters P names: their parts, and a larger P.
-use Prim.Native.Nat.{ℕ}
+use Prim.Native.Nat.{ℕ, zero, suc, _<_}
 use mathlib.Core.List.{[], _∷_, _++_}
-use Rattle.language.specs.Word.{Word, Over, none, one}
+use lib.ListN.{getD}
+use Rattle.language.specs.Word.{Word, Over, none, one, Bytes}
 
 pub front-over : {P : ℕ → Type 0} (x y : Word) → Over P (x ++ y) → Over P x
 front-over [] y h = none
@@ -18,3 +19,8 @@ over-join (one b h) k = one b (over-join h k)
 pub over-wider : {P Q : ℕ → Type 0} → ((c : ℕ) → P c → Q c) → {w : Word} → Over P w → Over Q w
 over-wider f none = none
 over-wider f (one {c} b h) = one (f c b) (over-wider f h)
+
+-- A list each of whose numbers is below 256 is a list of bytes.
+pub bytes-all : (s : Word) → ((i : ℕ) → getD s i 0 < 256) → Bytes s
+bytes-all [] f = none
+bytes-all (c ∷ s) f = one (f zero) (bytes-all s (λ i. f (suc i)))

@@ -18,12 +18,12 @@ use Rattle.cards.specs.Mark.{marked}
 use Rattle.cards.specs.Meaning.{patterns, numbered, card-pattern}
 use Rattle.store.specs.Room.{fresh-store}
 use Rattle.store.specs.Loading.{root, Loading, load}
-use Rattle.store.specs.Laws.Wall.{Ready, Filled, grows-length, anew}
+use Rattle.store.specs.Laws.Wall.{Filled, grows-length, anew}
 use Rattle.store.specs.Laws.Making.{marked-nullable}
 use Rattle.store.specs.Laws.Languages.{language-at}
-use Rattle.store.specs.Laws.Fresh.{fresh-ready}
-use Rattle.store.specs.Laws.Cards.{good-card, CardLoaded, card-loaded}
-use Rattle.store.specs.Laws.Loading.{LoadLaw, all-loaded, was-full, load-law}
+use Rattle.store.specs.Laws.FreshRoom.{load-fresh-law}
+use Rattle.store.specs.Laws.Cards.{CardLoaded, card-loaded}
+use Rattle.store.specs.Laws.Loading.{LoadLaw, all-loaded, was-full}
 use Rattle.derivative.specs.Derivative.{Deriving, derived, stopped}
 use Rattle.derivative.specs.Laws.Steps.{Done, Ended, Why, no-place, no-budget, StepLaw, was-done, was-ended}
 use Rattle.derivative.specs.Laws.Derivative.{Means}
@@ -55,15 +55,8 @@ pub data Call (card word : List ℕ) (size budget : ℕ) : Outcome → Type 0 wh
       → Call card word size budget (judged budget (derived place store′ left))
 
 module _ (card word : List ℕ) (cards : Bytes card) (letters : Bytes word) (size budget : ℕ) where
-  -- The room that a legal size makes is ready.
+  -- A call that is not refused loads the card into the fresh store, and then follows the word.
   module _ (u : Unrefused card word size) where
-    pub ready : Ready (size / 8) fresh-store
-    ready =
-        let l = legal-room size (u .room-legal) in
-        let a = l .enough in
-        let b = l .not-large in
-        fresh-ready (size / 8) (omega arith) (omega arith)
-
     after-load : {l : Loading} → LoadLaw (size / 8) (records card) fresh-store [] (records card) l → Call card word size budget (follow-loaded (size / 8) word budget l)
     after-load (was-full f) = full-in-loading u f
     after-load (all-loaded {places′ = places} {store′ = store} a) =
@@ -79,7 +72,7 @@ module _ (card word : List ℕ) (cards : Bytes card) (letters : Bytes word) (siz
 
     call-in : Call card word size budget (fits-in card word (size / 8) budget)
     unfolding fits-in
-    call-in = after-load (load-law (size / 8) (records card) (good-card card cards (u .card-good)) fresh-store ready)
+    call-in = after-load (load-fresh-law (legal-room size (u .room-legal)) card cards (u .card-good))
 
   -- How any call comes to its outcome.
   pub call : Call card word size budget (fits-outcome card word size budget)
@@ -229,7 +222,7 @@ fits-visits card word cards letters size budget = go (match-standing card word s
     go Good e =
         let u = unrefused card word size e in
         call-visits-told card word cards letters size budget u
-        (load-law (size / 8) (records card) (good-card card cards (u .card-good)) fresh-store (ready card word cards letters size budget u))
+        (load-fresh-law (legal-room size (u .room-legal)) card cards (u .card-good))
 
 -- Just enough: yes or no, telling n places and v visits, is given, with the same numbers and the same store, exactly in legal rooms of
 -- at least n places with a budget of at least v.

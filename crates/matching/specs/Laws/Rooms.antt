@@ -1,34 +1,34 @@
 -- Matching in a room: what the code answers of beginning, of following and of judging, with the room that it leaves, is what the next
 -- step goes on from, since the store that stands in the room is good again.
-use Prim.Native.Nat.{ℕ, zero, suc, _+_, _-_, _/_, _<_, _≤_}
+use Prim.Native.Nat.{ℕ, suc, _+_, _-_, _<_, _≤_}
 use native.Mathlib.Numerals.{add-one}
 use native.Mathlib.Omega.{arith}
 use mathlib.Core.Bool.{Bool, true, false, cond}
-use mathlib.Core.List.{List, [], _∷_}
-use mathlib.Core.Path.{_≡_, refl, sym, _∙_, ap, ap₂, subst}
-use lib.ListN.{length, getD, take, drop, drop-of-length-le}
-use lib.Seq.{drop-cons, getD-take}
-use Rattle.language.specs.Word.{Bytes, none, one}
+use mathlib.Core.List.{List, []}
+use mathlib.Core.Path.{_≡_, refl, sym, _∙_, ap, ap₂}
+use lib.ListN.{length, getD, drop, drop-of-length-le}
+use lib.Seq.{drop-cons}
+use Rattle.language.specs.Word.{Bytes}
 use Rattle.cards.specs.declared.record.Record.{Record}
 use Rattle.cards.specs.declared.examine.Standing.{Standing}
 use Rattle.cards.specs.declared.examine.Standing.the-variants.{Good, Refused}
 use Rattle.cards.specs.Record.{records, child, run-of}
 use Rattle.cards.specs.Mark.{marked}
-use Rattle.cards.specs.Examine.{most-pattern-records, pattern-card}
-use Rattle.cards.specs.Standing.{RightLength, Stands, by-1, by-2, by-3, in-good-standing}
-use Rattle.cards.specs.Laws.Record.{length-records}
-use Rattle.cards.specs.Laws.Examine.{examined-right, good-right}
-use Rattle.store.specs.declared.loading.Loaded.{Loaded}
-use Rattle.store.specs.declared.loading.Loaded.the-variants.{All, Full as AllFull}
+use Rattle.cards.specs.Examine.{pattern-card}
+use Rattle.store.specs.declared.entering.Entered.{Entered}
+use Rattle.store.specs.declared.entering.Entered.the-variants.{At as EnteredAt, Full as NotEntered}
 use Rattle.store.specs.Room.{store-in, places-of, laid, fresh-store}
-use Rattle.store.specs.Loading.{root, Loading, loaded, no-room, load, after-loading}
-use Rattle.store.specs.Told.{told-loading, Mapped}
-use Rattle.store.specs.Good.{most-places, GoodStore, Loadable}
-use Rattle.store.specs.Laws.Room.{laid-same, laid-laid, store-of-laid, length-laid, bytes-laid}
-use Rattle.store.specs.Laws.Wall.{grows-length, Ready, Kept, kept-refl, kept-trans}
-use Rattle.store.specs.Laws.GoodRoom.{good-fits, room-ready, length-store-in, length-after, places-after, store-after, good-after}
-use Rattle.store.specs.Laws.Fresh.{fresh-good, fresh-ready}
-use Rattle.store.specs.Laws.Loading.{AllLoaded, LoadLaw, all-loaded, was-full, load-law}
+use Rattle.store.specs.Loading.{root, Loading, loaded, no-room, after-loading}
+use Rattle.store.specs.Told.{told-entering, Enters}
+use Rattle.store.specs.Good.{GoodStore}
+use Rattle.store.specs.Laws.Room.{laid-same, laid-laid}
+use Rattle.store.specs.Laws.Wall.{grows-length, Kept, kept-refl, kept-trans}
+use Rattle.store.specs.Laws.GoodRoom.{room-ready, length-store-in, length-after, places-after, store-after, good-after}
+use Rattle.store.specs.Laws.Loading.{LoadLaw, all-loaded, was-full}
+use Rattle.store.specs.Laws.LoadingRoom.{loading-in}
+use Rattle.store.specs.Laws.LegalRoom.{LegalRoom, legal-room}
+use Rattle.store.specs.Laws.Cards.{card-loaded}
+use Rattle.store.specs.Laws.FreshRoom.{loading-fresh, grown-good, load-fresh-law, lent-fresh, entered-fresh}
 use Rattle.derivative.specs.declared.Derived.{Derived}
 use Rattle.derivative.specs.declared.Derived.the-variants.{At, Stopped}
 use Rattle.derivative.specs.Derivative.{Deriving, derived, stopped, and-then, derive}
@@ -43,16 +43,9 @@ use Rattle.matching.specs.Refusals.{standing-of}
 use Rattle.matching.specs.Fits.{yes, no, told, Outcome, follow, judged, follow-loaded, fits-in, fits-standing, fits-outcome}
 use Rattle.matching.specs.Promise.{Fits, Judges}
 use Rattle.matching.specs.Begin.{CanBegin, told-begun, Begins}
-use Rattle.store.specs.Laws.LegalRoom.{LegalRoom, legal-room}
 use Rattle.matching.specs.Laws.Refusals.{Unrefused, unrefused}
-use Rattle.store.specs.Laws.Cards.{some-record, good-card, card-loaded}
 use Rattle.matching.specs.Laws.Follow.{left-of, follow-law, follow-visits}
-use Rattle.matching.specs.Laws.Fits.{ready, fits-true}
-
--- A slice of bytes.
-pub bytes-all : (s : List ℕ) → ((i : ℕ) → getD s i 0 < 256) → Bytes s
-bytes-all [] f = none
-bytes-all (c ∷ s) f = one (f zero) (bytes-all s (λ i. f (suc i)))
+use Rattle.matching.specs.Laws.Fits.{fits-true}
 
 -- What following a word from a place of the store of a room comes to.
 abbrev pub following-in : List ℕ → ℕ → ℕ → List ℕ → ℕ → Deriving
@@ -184,32 +177,40 @@ no-told : {mark : Bool} {taken n : ℕ} (visits : ℕ) → mark ≡ false → ta
     → told (No taken visits) ≡ record { says = cond mark yes no; places = n; visits = visits }
 no-told visits e f = rw (e, f)
 
+-- A word of bytes was followed from a place of the good store of a room.
+pub record Followed (room : List ℕ) (places place : ℕ) (word : List ℕ) (budget : ℕ) (end : Derived) (room₁ : List ℕ) : Type 0 where
+  pub good : GoodStore room places
+  pub inside : place < places
+  pub letters : Bytes word
+  pub comes : Comes room (following-in room places place word budget) end room₁
+
 -- What was followed, judged by its last place.
-module _ {room : List ℕ} {places : ℕ} (good : GoodStore room places) (place : ℕ) (inside : place < places) {word : List ℕ} (letters : Bytes word)
-    (budget : ℕ) {end : Derived} {room₁ : List ℕ} (c : Comes room (following-in room places place word budget) end room₁) where
+module _ {room : List ℕ} {places place : ℕ} {word : List ℕ} {budget : ℕ} {end : Derived} {room₁ : List ℕ}
+    (w : Followed room places place word budget end room₁) where
   abbrev whole : Deriving
   whole = following-in room places place word budget
 
   followed-keeps : Keeps (places-of room) (store-in room places) whole
   followed-keeps =
-      step-keeps (follow-law letters (places-of room) place (store-in room places) budget (in-store room inside) (room-ready good))
+      step-keeps (follow-law (w .letters) (places-of room) place (store-in room places) budget (in-store room (w .inside)) (room-ready (w .good)))
 
   affordable : left-of whole ≤ budget
-  affordable = omega (arith, follow-visits letters (places-of room) place (store-in room places) budget (in-store room inside) (room-ready good))
+  affordable =
+      omega (arith, follow-visits (w .letters) (places-of room) place (store-in room places) budget (in-store room (w .inside)) (room-ready (w .good)))
 
   -- A place was reached: its mark can be read, and says the answer.
   module _ {last taken left : ℕ} (e : end ≡ At last taken left) where
     reached : Stood room places whole last taken left room₁
-    reached = stands followed-keeps c e
+    reached = stands followed-keeps (w .comes) e
 
     pub can-be-read : Next places room₁ last taken
-    can-be-read = next good reached
+    can-be-read = next (w .good) reached
 
     pub reached-left : left ≤ budget
     reached-left = rw (reached .is) at affordable
 
     mark-is : {mark says : Bool} → mark ≡ marked (child (store-in room₁ taken) last) → mark ≡ says → marked (child (reached .store) last) ≡ says
-    mark-is m t = sym (rw (store-then good reached) at m) ∙ t
+    mark-is m t = sym (rw (store-then (w .good) reached) at m) ∙ t
 
     pub said-yes : {mark : Bool} → mark ≡ marked (child (store-in room₁ taken) last) → mark ≡ true
         → Judges room (judged budget whole) (Yes taken (budget - left)) room₁
@@ -222,14 +223,14 @@ module _ {room : List ℕ} {places : ℕ} (good : GoodStore room places) (place 
   -- It stopped.
   module _ {number taken left : ℕ} (e : end ≡ Stopped number taken left) where
     pub stopped-left : left ≤ budget
-    stopped-left = go whole (c .answers) affordable
+    stopped-left = go whole (w .comes .answers) affordable
       where
         go : (d : Deriving) → end ≡ told-deriving d → left-of d ≤ budget → left ≤ budget
         go (derived p s b) f l = absurd (not-both e f)
         go (stopped n s b) f l = let same : left ≡ b = cc in omega arith
 
     pub said-refused : Judges room (judged budget whole) (RefusedMatch number taken (budget - left)) room₁
-    said-refused = go whole c
+    said-refused = go whole (w .comes)
       where
         go : (d : Deriving) → Comes room d end room₁ → Judges room (judged budget d) (RefusedMatch number taken (budget - left)) room₁
         go (derived p s b) k = absurd (not-both e (k .answers))
@@ -240,144 +241,46 @@ module _ {room : List ℕ} {places : ℕ} (good : GoodStore room places) (place 
             let m : left ≡ b = cc in
             record { tells = rw (i, j, m); leaves = k .leaves }
 
--- Beginning: the fresh store is good in a legal room, and a card in good standing can be loaded.
+-- Beginning: the card is entered into the fresh store, and what entering answers is told as it is.
 
-length-fresh : (room : List ℕ) → 16 ≤ length room → length (laid fresh-store room) ≡ length room
-length-fresh room l = length-laid fresh-store room l
+abbrev pub begun-of : Entered → Begun
+begun-of (EnteredAt place taken) = BegunAt place taken
+begun-of (NotEntered taken) = Full taken
 
-module _ (room : List ℕ) (bytes : Bytes room) (legal : LegalRoom (length room)) where
-  fresh-in : GoodStore (laid fresh-store room) 2
-  fresh-in =
-      let a = legal .enough in
-      let b = legal .not-large in
-      let n = length-fresh room a in
-      record {
-        bytes = bytes-laid fresh-store (good-fits fresh-good) bytes;
-        fits = omega arith;
-        short = omega arith;
-        good = rw (store-of-laid fresh-store room) fresh-good;
-      }
+begun-told : (l : Loading) → begun-of (told-entering l) ≡ told-begun l
+begun-told (loaded places store) = refl
+begun-told (no-room store) = refl
 
-  fresh-is-ready : Ready (places-of room) fresh-store
-  fresh-is-ready = let a = legal .enough in let b = legal .not-large in fresh-ready (places-of room) (omega arith) (omega arith)
+-- The room of a call that can begin is legal, and so long enough for a fresh store.
 
-  -- A store that grew from the fresh one stands well in the room.
-  module _ {store : List Record} (k : Kept (places-of room) fresh-store store) where
-    over-fresh : laid store (laid fresh-store room) ≡ laid store room
-    over-fresh = laid-laid fresh-store store room (grows-length (k .grows))
+legal : {card room : List ℕ} → CanBegin card room → LegalRoom (length room)
+legal {room = room} can = legal-room (length room) (can .room-legal)
 
-    grown-good : GoodStore (laid store room) (length store)
-    grown-good =
-        let kept = subst (λ (n : ℕ). Kept (n / 8) fresh-store store) (sym (length-fresh room (legal .enough))) k in
-        rw over-fresh at (good-after (laid fresh-store room) kept fresh-in)
+pub enough : {card room : List ℕ} → CanBegin card room → 16 ≤ length room
+enough can = legal can .enough
 
-right-length : (card : List ℕ) → pattern-card card ≡ Good → RightLength most-pattern-records (length card)
-unfolding pattern-card
-right-length card e = go e (examined-right most-pattern-records card)
-  where
-    go : {s : Standing} → s ≡ Good → Stands most-pattern-records card s → RightLength most-pattern-records (length card)
-    go e (by-1 n) = let z : _≡_ {A = ℕ} 0 1 = cc in absurd (omega arith)
-    go e (by-2 h _ _ _ _) = h
-    go e (by-3 h _ _ _ _ _) = h
-    go e (in-good-standing h _) = h
+-- A call that can begin, once a fresh store is laid in its room.
+pub record FreshCall (card room : List ℕ) (places : ℕ) (room₁ : List ℕ) : Type 0 where
+  pub cards : Bytes card
+  pub bytes : Bytes room
+  pub can : CanBegin card room
+  pub room-is : room₁ ≡ laid fresh-store room
+  pub two : places ≡ 2
 
-pub loadable : (card map : List ℕ) → pattern-card card ≡ Good → length map ≡ most-pattern-records → Loadable card map
-unfolding pattern-card
-loadable card map e n =
-    let l = right-length card e .not-long in
-    record { mapped = omega arith; obeys = λ at m. good-right most-pattern-records card e at m .obeys }
+module _ {card room : List ℕ} {places : ℕ} {room₁ : List ℕ} (k : FreshCall card room places room₁) where
+  -- The card can be entered.
+  pub can-enter : GoodStore room₁ places × (pattern-card card ≡ Good)
+  can-enter = (lent-fresh room (k .bytes) (legal (k .can)) (k .room-is) (k .two), k .can .card-good)
 
--- Its last record is in the map.
-
-pub some-last : (card : List ℕ) → pattern-card card ≡ Good → 1 ≤ length card / 8
-some-last card e = let s = some-record card e in omega (arith, length-records card)
-
-pub last-mapped : (card : List ℕ) → pattern-card card ≡ Good → length card / 8 - 1 < most-pattern-records
-last-mapped card e = let l = right-length card e .not-long in omega (arith, some-last card e)
-
--- What loading the card into the fresh store of a room comes to.
-abbrev pub loading-fresh : List ℕ → List ℕ → Loading
-loading-fresh card room = load (places-of room) fresh-store (records card)
-
--- What the code told of loading is one thing.
-not-both-loaded : {answer : Loaded} {taken stood : ℕ} → answer ≡ All taken → answer ≡ AllFull stood → ⊥
-not-both-loaded e f = let z : _≡_ {A = ℕ} 0 1 = cc in omega arith
-
-module _ (card room : List ℕ) (cards : Bytes card) (bytes : Bytes room) (can : CanBegin card room) where
-  legal : LegalRoom (length room)
-  legal = legal-room (length room) (can .room-legal)
-
-  pub enough : 16 ≤ length room
-  enough = legal .enough
-
-  load-fresh-law : LoadLaw (places-of room) (records card) fresh-store [] (records card) (loading-fresh card room)
-  load-fresh-law =
-      load-law (places-of room) (records card) (good-card card cards (can .card-good)) fresh-store (fresh-is-ready room bytes legal)
-
-  -- All records are loaded: the root's place is the last of the map, and in the store.
-  module _ (map : List ℕ) {places : List ℕ} {s : List Record} (h : AllLoaded (places-of room) (records card) fresh-store [] (records card) places s)
-      (m : take (length places) map ≡ places) where
-    last-place : length places - 1 < length places
-    last-place = let some = some-record card (can .card-good) in omega (arith, h .count)
-
-    at-root : getD map (length card / 8 - 1) 0 ≡ root places
-    at-root =
-        let last : length card / 8 - 1 ≡ length places - 1 = omega (arith, h .count, length-records card) in
-        ap (λ (i : ℕ). getD map i 0) last
-        ∙ sym (getD-take (length places) map (length places - 1) 0 last-place)
-        ∙ ap (λ (p : List ℕ). getD p (length places - 1) 0) m
-
-    root-inside : getD map (length card / 8 - 1) 0 < length s
-    root-inside = rw at-root (h .standing .inside (length places - 1) last-place)
-
-  module _ {room₁ : List ℕ} {n : ℕ} (r : room₁ ≡ laid fresh-store room) (two : n ≡ 2) where
-    pub lent-fresh : GoodStore room₁ n
-    lent-fresh = rw (r, two) (fresh-in room bytes legal)
-
-    loads-fresh : load (places-of room₁) (store-in room₁ n) (records card) ≡ loading-fresh card room
-    loads-fresh =
-        rw (r, two, store-of-laid fresh-store room)
-        (ap (λ (k : ℕ). load (k / 8) fresh-store (records card)) (length-fresh room (legal .enough)))
-
-    module _ (map : List ℕ) {answer : Loaded} {room₂ : List ℕ}
-        (a : answer ≡ told-loading (load (places-of room₁) (store-in room₁ n) (records card)))
-        (b : (room₂ ≡ laid (after-loading (load (places-of room₁) (store-in room₁ n) (records card))) room₁)
-        × Mapped (load (places-of room₁) (store-in room₁ n) (records card)) map) where
-      -- The card is loaded: its root's place is the last of the map.
-      pub begun-at : {taken : ℕ} → answer ≡ All taken
-          → Begins room (loading-fresh card room) (BegunAt (getD map (length card / 8 - 1) 0) taken) room₂
-      begun-at {taken} e = go load-fresh-law (rw loads-fresh at a) (rw (loads-fresh, r) at (b .0)) (rw loads-fresh at (b .1))
-        where
-          go : {l : Loading} → LoadLaw (places-of room) (records card) fresh-store [] (records card) l
-              → answer ≡ told-loading l → room₂ ≡ laid (after-loading l) (laid fresh-store room) → Mapped l map
-              → Begins room l (BegunAt (getD map (length card / 8 - 1) 0) taken) room₂
-          go (all-loaded {places′ = places} {store′ = s} h) t w m =
-              let stood : taken ≡ length s = cc in
-              record { answers = ap₂ BegunAt (at-root map h m) stood; leaves = w ∙ over-fresh room bytes legal (h .kept) }
-          go (was-full f) t w m = absurd (not-both-loaded e t)
-
-      pub root-fits : {taken : ℕ} → answer ≡ All taken → getD map (length card / 8 - 1) 0 < most-places
-      root-fits {taken} e = go load-fresh-law (rw loads-fresh at a) (rw loads-fresh at (b .1))
-        where
-          go : {l : Loading} → LoadLaw (places-of room) (records card) fresh-store [] (records card) l
-              → answer ≡ told-loading l → Mapped l map → getD map (length card / 8 - 1) 0 < most-places
-          go (all-loaded h) t m =
-              let w = h .kept .ready .within in let l = h .kept .ready .legal in omega (arith, root-inside map h m)
-          go (was-full f) t m = absurd (not-both-loaded e t)
-
-      -- The room is full.
-      pub begun-full : {taken : ℕ} → answer ≡ AllFull taken → Begins room (loading-fresh card room) (Full taken) room₂
-      begun-full {taken} e = go load-fresh-law (rw loads-fresh at a) (rw (loads-fresh, r) at (b .0))
-        where
-          go : {l : Loading} → LoadLaw (places-of room) (records card) fresh-store [] (records card) l
-              → answer ≡ told-loading l → room₂ ≡ laid (after-loading l) (laid fresh-store room) → Begins room l (Full taken) room₂
-          go (all-loaded h) t w = absurd (not-both-loaded t e)
-          go (was-full {store′ = s} f) t w =
-              let stood : taken ≡ length s = cc in
-              record { answers = ap Full stood; leaves = w ∙ over-fresh room bytes legal (f .kept) }
+  -- What entering answers is what beginning tells.
+  pub begun-with : {entered : Entered} {room₂ : List ℕ} → Enters room₁ (loading-in room₁ places card) entered room₂
+      → {answer : Entered} → entered ≡ answer → Begins room (loading-fresh card room) (begun-of answer) room₂
+  begun-with e i =
+      let f = entered-fresh room (k .bytes) (legal (k .can)) (k .room-is) (k .two) card (k .cards) (k .can .card-good) e in
+      record { answers = ap begun-of (sym i ∙ f .answers) ∙ begun-told (loading-fresh card room); leaves = f .leaves }
 
 -- The card was loaded: `place` is its root's, and `store` stands in the room.
-record Entered (room : List ℕ) (l : Loading) (place taken : ℕ) (room₁ : List ℕ) : Type 0 where
+record BeginsAt (room : List ℕ) (l : Loading) (place taken : ℕ) (room₁ : List ℕ) : Type 0 where
   places : List ℕ
   store : List Record
   is : l ≡ loaded places store
@@ -391,7 +294,7 @@ judged-store : (budget : ℕ) (d : Deriving) → judged budget d .store ≡ afte
 judged-store budget (derived place s left) = refl
 judged-store budget (stopped number s left) = refl
 
-module _ {room : List ℕ} {l : Loading} {place taken : ℕ} {room₁ : List ℕ} (n : Entered room l place taken room₁) where
+module _ {room : List ℕ} {l : Loading} {place taken : ℕ} {room₁ : List ℕ} (n : BeginsAt room l place taken room₁) where
   entered-good : Bytes room → LegalRoom (length room) → GoodStore room₁ taken
   entered-good bytes legal = rw (n .room-is, n .taken-is) (grown-good room bytes legal (n .kept))
 
@@ -430,8 +333,15 @@ module _ {room : List ℕ} {l : Loading} {place taken : ℕ} {room₁ : List ℕ
 not-both-begun : {begun : Begun} {place taken stood : ℕ} → begun ≡ BegunAt place taken → begun ≡ Full stood → ⊥
 not-both-begun e f = let z : _≡_ {A = ℕ} 0 1 = cc in omega arith
 
--- The call `fits`, by its parts.
-module _ (card word room : List ℕ) (budget : ℕ) (cards : Bytes card) (letters : Bytes word) where
+-- What was lent to a call of `fits` are bytes, and `found` is the first refusal that needs no work.
+pub record Lent (card word room : List ℕ) (budget : ℕ) (found : Standing) : Type 0 where
+  pub cards : Bytes card
+  pub letters : Bytes word
+  pub bytes : Bytes room
+  pub standing : found ≡ standing-of card (length word) (length room)
+
+-- The call, by its parts.
+module _ {card word room : List ℕ} {budget : ℕ} {found : Standing} (k : Lent card word room budget found) where
   abbrev outcome : Outcome
   outcome = fits-outcome card word (length room) budget
 
@@ -442,68 +352,64 @@ module _ (card word room : List ℕ) (budget : ℕ) (cards : Bytes card) (letter
       record {
         tells = t;
         leaves = j .leaves ∙ ap (λ (o : Outcome). laid (o .store) room) (sym e);
-        means = rw t (fits-true card word cards letters (length room) budget);
+        means = rw t (fits-true card word (k .cards) (k .letters) (length room) budget);
       }
 
-  module _ {found : Standing} (s : found ≡ standing-of card (length word) (length room)) where
-    -- A call that is refused at once leaves the room as it is.
-    pub refused-at-once : {number : ℕ} → found ≡ Refused number → Fits card word room budget (RefusedMatch number 0 0) room
-    unfolding fits-outcome run-of
-    refused-at-once e =
-        promised (ap (λ (t : Standing). fits-standing t card word (length room) budget) (sym s ∙ e)) (record { tells = refl; leaves = refl })
+  -- A call that is refused at once leaves the room as it is.
+  pub refused-at-once : {number : ℕ} → found ≡ Refused number → Fits card word room budget (RefusedMatch number 0 0) room
+  unfolding fits-outcome run-of
+  refused-at-once e =
+      promised (ap (λ (t : Standing). fits-standing t card word (length room) budget) (sym (k .standing) ∙ e)) (record { tells = refl; leaves = refl })
 
-    -- A call that is not begins.
-    module _ (bytes : Bytes room) (e : found ≡ Good) where
-      abbrev begins : Loading
-      begins = loading-fresh card room
+  -- A call that is not begins.
+  module _ (e : found ≡ Good) where
+    abbrev begins : Loading
+    begins = loading-fresh card room
 
-      not-refused : Unrefused card word (length room)
-      not-refused = unrefused card word (length room) (sym s ∙ e)
+    not-refused : Unrefused card word (length room)
+    not-refused = unrefused card word (length room) (sym (k .standing) ∙ e)
 
-      outcome-is : outcome ≡ follow-loaded (places-of room) word budget begins
-      unfolding fits-outcome fits-in
-      outcome-is = ap (λ (t : Standing). fits-standing t card word (length room) budget) (sym s ∙ e)
+    outcome-is : outcome ≡ follow-loaded (places-of room) word budget begins
+    unfolding fits-outcome fits-in
+    outcome-is = ap (λ (t : Standing). fits-standing t card word (length room) budget) (sym (k .standing) ∙ e)
 
-      pub can-begin : CanBegin card room
-      can-begin = record { card-good = not-refused .card-good; room-legal = not-refused .room-legal }
+    pub can-begin : CanBegin card room
+    can-begin = record { card-good = not-refused .card-good; room-legal = not-refused .room-legal }
 
-      fits-legal : LegalRoom (length room)
-      fits-legal = legal-room (length room) (not-refused .room-legal)
+    module _ {begun : Begun} {room₁ : List ℕ} (b : Begins room begins begun room₁) where
+      pub full-in-loading : {taken : ℕ} → begun ≡ Full taken → Fits card word room budget (RefusedMatch 7 taken 0) room₁
+      full-in-loading {taken} f = go begins refl (b .answers) (b .leaves)
+        where
+          go : (l : Loading) → begins ≡ l → begun ≡ told-begun l → room₁ ≡ laid (after-loading l) room
+              → Fits card word room budget (RefusedMatch 7 taken 0) room₁
+          go (loaded places store) i a w = absurd (not-both-begun a f)
+          go (no-room store) i a w =
+              let stood : taken ≡ length store = cc in
+              promised (outcome-is ∙ ap (follow-loaded (places-of room) word budget) i) (record { tells = rw stood; leaves = w })
 
-      module _ {begun : Begun} {room₁ : List ℕ} (b : Begins room begins begun room₁) where
-        pub full-in-loading : {taken : ℕ} → begun ≡ Full taken → Fits card word room budget (RefusedMatch 7 taken 0) room₁
-        full-in-loading {taken} f = go begins refl (b .answers) (b .leaves)
+      module _ {place taken : ℕ} (f : begun ≡ BegunAt place taken) where
+        entered : BeginsAt room begins place taken room₁
+        entered = go (load-fresh-law (legal can-begin) card (k .cards) (not-refused .card-good)) (b .answers) (b .leaves)
           where
-            go : (l : Loading) → begins ≡ l → begun ≡ told-begun l → room₁ ≡ laid (after-loading l) room
-                → Fits card word room budget (RefusedMatch 7 taken 0) room₁
-            go (loaded places store) i a w = absurd (not-both-begun a f)
-            go (no-room store) i a w =
-                let stood : taken ≡ length store = cc in
-                promised (outcome-is ∙ ap (follow-loaded (places-of room) word budget) i) (record { tells = rw stood; leaves = w })
+            go : {l : Loading} → LoadLaw (places-of room) (records card) fresh-store [] (records card) l
+                → begun ≡ told-begun l → room₁ ≡ laid (after-loading l) room → BeginsAt room l place taken room₁
+            go (all-loaded {places′ = places} {store′ = store} h) a w =
+                record {
+                  places = places;
+                  store = store;
+                  is = refl;
+                  place-is = cc;
+                  taken-is = cc;
+                  room-is = w;
+                  kept = h .kept;
+                  inside = card-loaded card (not-refused .card-good) h .inside;
+                }
+            go (was-full h) a w = absurd (not-both-begun f a)
 
-        module _ {place taken : ℕ} (f : begun ≡ BegunAt place taken) where
-          entered : Entered room begins place taken room₁
-          entered = go (load-fresh-law card room cards bytes can-begin) (b .answers) (b .leaves)
-            where
-              go : {l : Loading} → LoadLaw (places-of room) (records card) fresh-store [] (records card) l
-                  → begun ≡ told-begun l → room₁ ≡ laid (after-loading l) room → Entered room l place taken room₁
-              go (all-loaded {places′ = places} {store′ = store} h) a w =
-                  record {
-                    places = places;
-                    store = store;
-                    is = refl;
-                    place-is = cc;
-                    taken-is = cc;
-                    room-is = w;
-                    kept = h .kept;
-                    inside = card-loaded card (not-refused .card-good) h .inside;
-                  }
-              go (was-full h) a w = absurd (not-both-begun f a)
+        pub begun-well : GoodStore room₁ taken × (place < taken)
+        begun-well = (entered-good entered (k .bytes) (legal can-begin), entered-inside entered)
 
-          pub begun-well : GoodStore room₁ taken × (place < taken)
-          begun-well = (entered-good entered bytes fits-legal, entered-inside entered)
-
-          pub judged-begun : {answer : Match} {room₂ : List ℕ} → Judges room₁ (judged budget (following-in room₁ taken place word budget)) answer room₂
-              → Fits card word room budget answer room₂
-          judged-begun j =
-              promised (outcome-is ∙ ap (follow-loaded (places-of room) word budget) (entered .is)) (entered-judged entered letters budget j)
+        pub judged-begun : {answer : Match} {room₂ : List ℕ} → Judges room₁ (judged budget (following-in room₁ taken place word budget)) answer room₂
+            → Fits card word room budget answer room₂
+        judged-begun j =
+            promised (outcome-is ∙ ap (follow-loaded (places-of room) word budget) (entered .is)) (entered-judged entered (k .letters) budget j)

@@ -1,9 +1,9 @@
--- What it costs to check a list in a store in which nothing has to be added: for each pair and each letter, the visits of both places.
+-- What a list of pairs costs in a store in which nothing has to be added: for each pair and each letter, the visits of both places.
 use Prim.Native.Nat.{ℕ, _+_}
 use mathlib.Core.List.{List, [], _∷_}
 use Rattle.cards.specs.declared.record.Record.{Record}
 use Rattle.derivative.specs.Visits.{visits}
-use Rattle.comparing.specs.Pair.{Pair}
+use Rattle.pairs.specs.declared.pair.Pair.{Pair}
 
 unfoldable pub letters-cost : List Record → ℕ → ℕ → List ℕ → ℕ
 letters-cost store x y [] = 0

@@ -1,0 +1,82 @@
+-- The turns of the checker as equations: a letter by what both derivations come to and whether the pair reached is listed, a pair by its marks,
+-- the list by its opening pair.
+use Prim.Native.Nat.{ℕ, suc}
+use mathlib.Core.Bool.{Bool, true, false, Bool·beq}
+use mathlib.Core.List.{List, _∷_}
+use mathlib.Core.Path.{_≡_, refl, sym, _∙_, ap}
+use Rattle.cards.specs.declared.record.Record.{Record}
+use Rattle.cards.specs.Record.{child}
+use Rattle.cards.specs.Mark.{marked}
+use Rattle.derivative.specs.Derivative.{Deriving, derived, stopped, derive}
+use Rattle.pairs.specs.declared.pair.Pair.{Pair}
+use Rattle.pairs.specs.Pair.{stands-in}
+use Rattle.checking.specs.Check.{Checking, rejected, cut-off, Passing, passes, ends, at-opening, at-marks, at-letter, check-letters, check-pairs, check-list}
+
+-- Equal marks test as equal.
+pub beq-same : (p q : Bool) → p ≡ q → Bool·beq p q ≡ true
+beq-same true true e = refl
+beq-same true false e = sym e
+beq-same false true e = e
+beq-same false false e = refl
+
+-- The two marks of a pair, compared.
+abbrev pub marks-equal : List Record → Pair → Bool
+marks-equal store p = Bool·beq (marked (child store (p .left))) (marked (child store (p .right)))
+
+-- A letter: what follows both derivations.
+module _ (room : ℕ) (pairs : List Pair) (n x y c : ℕ) (rest : List ℕ) where
+  -- By whether the pair reached is listed.
+  abbrev pub by-listed : Bool → List Record → ℕ → Passing
+  by-listed t s b = elim t as (λ _. Passing) [ true ↦ check-letters room pairs n x y rest s b | false ↦ ends (rejected (at-letter n c) s b) ]
+
+  abbrev pub right-then : ℕ → Deriving → Passing
+  right-then x₁ d = elim d as (λ _. Passing) [ derived y₂ s b ↦ by-listed (stands-in pairs x₁ y₂) s b | stopped number s b ↦ ends (cut-off number s b) ]
+
+  abbrev pub left-then : Deriving → Passing
+  left-then d = elim d as (λ _. Passing) [ derived x₁ s b ↦ right-then x₁ (derive room c y s b) | stopped number s b ↦ ends (cut-off number s b) ]
+
+  module _ (store : List Record) (b : ℕ) {store₁ store₂ : List Record} {b₁ b₂ x₁ y₂ : ℕ}
+      (left : derive room c x store b ≡ derived x₁ store₁ b₁) (right : derive room c y store₁ b₁ ≡ derived y₂ store₂ b₂) where
+    both-derived : check-letters room pairs n x y (c ∷ rest) store b ≡ by-listed (stands-in pairs x₁ y₂) store₂ b₂
+    unfolding check-letters
+    both-derived = ap left-then left ∙ ap (right-then x₁) right
+
+    pub pair-listed : stands-in pairs x₁ y₂ ≡ true → check-letters room pairs n x y (c ∷ rest) store b ≡ check-letters room pairs n x y rest store₂ b₂
+    pair-listed e = both-derived ∙ ap (λ (t : Bool). by-listed t store₂ b₂) e
+
+    pub pair-unlisted : stands-in pairs x₁ y₂ ≡ false → check-letters room pairs n x y (c ∷ rest) store b ≡ ends (rejected (at-letter n c) store₂ b₂)
+    pair-unlisted e = both-derived ∙ ap (λ (t : Bool). by-listed t store₂ b₂) e
+
+-- A pair: what follows its marks, and its letters.
+module _ (room : ℕ) (letters : List ℕ) (pairs : List Pair) (n : ℕ) (p : Pair) (rest : List Pair) where
+  abbrev pub letters-then : Passing → Checking
+  letters-then g = elim g as (λ _. Checking) [ passes s b ↦ check-pairs room letters pairs (suc n) rest s b | ends c ↦ c ]
+
+  abbrev pub marks-then : List Record → ℕ → Bool → Checking
+  marks-then store b t =
+      elim t as (λ _. Checking) [
+        | false ↦ rejected (at-marks n) store b
+        | true ↦ letters-then (check-letters room pairs n (p .left) (p .right) letters store b)
+      ]
+
+  pub marks-agree : (store : List Record) (b : ℕ) → marks-equal store p ≡ true
+      → check-pairs room letters pairs n (p ∷ rest) store b ≡ letters-then (check-letters room pairs n (p .left) (p .right) letters store b)
+  unfolding check-pairs
+  marks-agree store b e = ap (marks-then store b) e
+
+  pub marks-apart : (store : List Record) (b : ℕ) → marks-equal store p ≡ false → check-pairs room letters pairs n (p ∷ rest) store b ≡ rejected (at-marks n) store b
+  unfolding check-pairs
+  marks-apart store b e = ap (marks-then store b) e
+
+-- The list: what follows the search for its opening pair.
+module _ (room : ℕ) (letters : List ℕ) (pairs : List Pair) (x y : ℕ) (store : List Record) where
+  abbrev pub opening-then : ℕ → Bool → Checking
+  opening-then b t = elim t as (λ _. Checking) [ false ↦ rejected at-opening store b | true ↦ check-pairs room letters pairs 0 pairs store b ]
+
+  pub opening-listed : (b : ℕ) → stands-in pairs x y ≡ true → check-list room letters pairs x y store b ≡ check-pairs room letters pairs 0 pairs store b
+  unfolding check-list
+  opening-listed b e = ap (opening-then b) e
+
+  pub opening-unlisted : (b : ℕ) → stands-in pairs x y ≡ false → check-list room letters pairs x y store b ≡ rejected at-opening store b
+  unfolding check-list
+  opening-unlisted b e = ap (opening-then b) e

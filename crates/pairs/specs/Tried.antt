@@ -1,0 +1,18 @@
+-- The letters tried. Document 01: "Letters tried, ascending: those in a letter record of either pattern card."
+use Prim.Native.Nat.{ℕ}
+use mathlib.Core.Bool.{Bool, _||_}
+use mathlib.Core.List.{List}
+use Rattle.cards.specs.Record.{records}
+use Rattle.cards.specs.Letters.{mentions, those-below}
+
+-- The number of letters there can be: one for each byte.
+abbrev pub most-letters : ℕ
+most-letters = 256
+
+-- A letter record of either card has the letter c.
+abbrev pub mentioned : List ℕ → List ℕ → ℕ → Bool
+mentioned left right c = mentions (records left) c || mentions (records right) c
+
+unfoldable pub tried : List ℕ → List ℕ → List ℕ
+unfolding those-below mentions
+tried left right = those-below most-letters (mentioned left right)
