@@ -291,12 +291,24 @@ pub just-enough : (left right proof list : List ℕ) → Bytes left → Bytes ri
 just-enough left right proof list lefts rights proofs lists work budget f = call-enough (call left right proof list lefts rights proofs work budget) f
 
 -- .. and in no other.
-pub no-less : (left right proof list : List ℕ) → Bytes left → Bytes right → Bytes proof → Bytes list → (work budget work′ budget′ : ℕ)
-    → check-outcome left right proof list work′ budget′ ≡ check-outcome left right proof list work budget
-    → (check-outcome left right proof list work budget .tells .places ≤ work′ / 8) × (check-outcome left right proof list work budget .tells .visits ≤ budget′)
-no-less left right proof list lefts rights proofs lists work budget work′ budget′ e =
-    let c = check-counts left right proof list lefts rights proofs lists work′ budget′ in
-    (subst (λ (o : Outcome). o .tells .places ≤ work′ / 8) e (c .within), subst (λ (o : Outcome). o .tells .visits ≤ budget′) e (c .affordable))
+final-legal : {left right proof list : List ℕ} {work budget : ℕ} {o : Outcome} {visits : ℕ} → Call left right proof list work budget o visits
+    → Final (o .tells) → wrong-room work ≡ false
+final-legal (refused-at-once e) f = refused-not-final f
+final-legal (full-in-loading u k) f = u .room-legal
+final-legal (went-through u a i c) f = u .room-legal
+
+pub no-less : (left right proof list : List ℕ) → Bytes left → Bytes right → Bytes proof → Bytes list → (work budget : ℕ)
+    → Final (check-outcome left right proof list work budget .tells)
+    → (work′ budget′ : ℕ) → check-outcome left right proof list work′ budget′ ≡ check-outcome left right proof list work budget
+    → (wrong-room work′ ≡ false)
+    × (check-outcome left right proof list work budget .tells .places ≤ work′ / 8)
+    × (check-outcome left right proof list work budget .tells .visits ≤ budget′)
+no-less left right proof list lefts rights proofs lists work budget f work′ budget′ e =
+    let c = check-counts left right proof list lefts rights proofs lists work′ budget′ in (
+      final-legal (call left right proof list lefts rights proofs work′ budget′) (subst (λ (o : Outcome). Final (o .tells)) (sym e) f),
+      subst (λ (o : Outcome). o .tells .places ≤ work′ / 8) e (c .within),
+      subst (λ (o : Outcome). o .tells .visits ≤ budget′) e (c .affordable),
+    )
 
 -- A call that is not refused answers accepted exactly when the table is good in the store that it leaves.
 

@@ -273,9 +273,18 @@ pub just-enough : (card word : List ℕ) → Bytes card → Bytes word → (size
 just-enough card word cards letters size budget f = call-enough (call card word cards letters size budget) f
 
 -- .. and in no other.
-pub no-less : (card word : List ℕ) → Bytes card → Bytes word → (size budget size′ budget′ : ℕ)
-    → fits-outcome card word size′ budget′ ≡ fits-outcome card word size budget
-    → (fits-outcome card word size budget .tells .places ≤ size′ / 8) × (fits-outcome card word size budget .tells .visits ≤ budget′)
-no-less card word cards letters size budget size′ budget′ e =
-    let c = fits-counts card word cards letters size′ budget′ in
-    (subst (λ (o : Outcome). o .tells .places ≤ size′ / 8) e (c .within), subst (λ (o : Outcome). o .tells .visits ≤ budget′) e (c .affordable))
+final-legal : {card word : List ℕ} {size budget : ℕ} {o : Outcome} → Call card word size budget o → Final (o .tells) → wrong-room size ≡ false
+final-legal (refused-at-once e) f = refused-not-final f
+final-legal (full-in-loading u k) f = u .room-legal
+final-legal (stopped-on-the-way u c e k) f = u .room-legal
+final-legal (answered u c e d) f = u .room-legal
+
+pub no-less : (card word : List ℕ) → Bytes card → Bytes word → (size budget : ℕ) → Final (fits-outcome card word size budget .tells)
+    → (size′ budget′ : ℕ) → fits-outcome card word size′ budget′ ≡ fits-outcome card word size budget
+    → (wrong-room size′ ≡ false) × (fits-outcome card word size budget .tells .places ≤ size′ / 8) × (fits-outcome card word size budget .tells .visits ≤ budget′)
+no-less card word cards letters size budget f size′ budget′ e =
+    let c = fits-counts card word cards letters size′ budget′ in (
+      final-legal (call card word cards letters size′ budget′) (subst (λ (o : Outcome). Final (o .tells)) (sym e) f),
+      subst (λ (o : Outcome). o .tells .places ≤ size′ / 8) e (c .within),
+      subst (λ (o : Outcome). o .tells .visits ≤ budget′) e (c .affordable),
+    )
