@@ -1,26 +1,40 @@
-// Answering a line.
+// Answering standard input, a line at a time.
 use crate::checking_line;
 use crate::comparing_line;
-use crate::lines::LONGEST;
 use crate::matching_line;
-use crate::printing::text;
+use lines::parts::part;
+use lines::printing::end;
+use lines::reading::CHUNK;
+use lines::reading::KEPT;
+use lines::reading::LONGEST;
+use lines::reading::Reading;
+use lines::reading::begin;
+use lines::reading::read_line;
 
-// Answers the line that stands in the first bytes of a room.
-pub fn answer(kept: &[u8], length: usize) {
-    if length <= LONGEST && length <= kept.len() {
-        answer_call(&kept[0..length]);
-    } else {
-        text(b"bad line");
+// Answers each line. A loop has to end, and nothing says that the input does: so the turns are counted down from a number that no run uses
+// up.
+pub fn answer_all() {
+    let mut kept = [0u8; KEPT];
+    let mut chunk = [0u8; CHUNK];
+    let mut reading = begin();
+    let mut turns = u64::MAX;
+    while turns > 0 && !reading.ended {
+        reading = answer_next(&mut kept, &mut chunk, reading);
+        turns -= 1;
     }
-    text(b"\n");
 }
 
-// Writes what the call of the line told and left.
-fn answer_call(line: &[u8]) {
-    if !matching_line::answer(line)
-        && !comparing_line::answer(line)
-        && !checking_line::answer(line)
-    {
-        text(b"bad line");
+// Reads the next line and answers it.
+fn answer_next(kept: &mut [u8; KEPT], chunk: &mut [u8; CHUNK], before: Reading) -> Reading {
+    let reading = read_line(kept, chunk, before);
+    let length = reading.length;
+    if reading.whole {
+        end(length <= LONGEST && answer(part(kept, 0, length)));
     }
+    reading
+}
+
+// Writes what the call of the line told and left, and tells whether the line is a call.
+fn answer(line: &[u8]) -> bool {
+    matching_line::answer(line) || comparing_line::answer(line) || checking_line::answer(line)
 }

@@ -2,7 +2,6 @@
 use crate::cursor::NOWHERE;
 use crate::cursor::ends;
 use crate::cursor::past;
-use crate::hex::SPELLED;
 use crate::hex::byte_of;
 use crate::hex::bytes_if_any;
 use crate::hex::bytes_of;
@@ -10,13 +9,14 @@ use crate::number::budget_of;
 use crate::number::size_of;
 use crate::printing::byte;
 use crate::printing::number;
-use crate::printing::text;
 use crate::printing::work;
 use crate::rooms::LARGEST_ROOM;
 use crate::rooms::lay;
-use crate::rooms::part;
 use checking::Checked;
 use checking::check;
+use lines::hex::SPELLED;
+use lines::parts::part;
+use lines::printing::text;
 
 // What the line says. The bytes of the cards, of the list and of the earlier store stand one behind the other, up to these ends.
 struct Call {

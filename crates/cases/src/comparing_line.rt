@@ -2,7 +2,6 @@
 use crate::cursor::NOWHERE;
 use crate::cursor::ends;
 use crate::cursor::past;
-use crate::hex::SPELLED;
 use crate::hex::byte_of;
 use crate::hex::bytes_if_any;
 use crate::hex::bytes_of;
@@ -12,14 +11,15 @@ use crate::printing::bytes as show_bytes;
 use crate::printing::counts;
 use crate::printing::laid;
 use crate::printing::number;
-use crate::printing::text;
 use crate::rooms::LARGEST_ROOM;
 use crate::rooms::as_lent;
 use crate::rooms::lay;
 use crate::rooms::left_as_lent;
-use crate::rooms::part;
 use comparing::Comparison;
 use comparing::compare;
+use lines::hex::SPELLED;
+use lines::parts::part;
+use lines::printing::text;
 
 // What the line says. The bytes of the cards and of the earlier store and table stand one behind the other, up to these ends.
 struct Call {

@@ -1,13 +1,10 @@
-// Lower-case hexadecimal digits, read: two for a byte.
+// The bytes that a key has, in hex.
 use crate::cursor::NOWHERE;
 use crate::cursor::past;
-ghost use Prim.Native.Nat.{_*_, _≤_};
-ghost use lib.ListN.{length};
-
-// The bytes that the longest line can spell.
-pub const SPELLED: usize = 200000;
-// What `digit` tells of a byte that is no digit.
-const NO_DIGIT: u8 = 16;
+use lines::hex::SPELLED;
+use lines::hex::decode;
+use lines::hex::spelled;
+use lines::hex::spells;
 
 // Where the bytes that a key has end in the room that they were put into, and where reading goes on.
 pub struct Bytes {
@@ -78,59 +75,5 @@ pub fn byte_of(line: &[u8], at: usize, key: &[u8]) -> Byte {
     Byte {
         value: 0,
         next: NOWHERE,
-    }
-}
-
-// Puts the bytes that the digits spell into a room from a place on, as many as it holds, and tells how many.
-fn decode(digits: &[u8], room: &mut [u8; SPELLED], from: usize) -> usize
-    ensures { λ r. ⌜ 2 * r ≤ length (now (digits .entry)) ⌝ }
-{
-    let most = digits.len() / 2;
-    let mut count = 0;
-    let mut at = from;
-    while count < most && at < SPELLED && spells(digits, count) {
-        room[at] = spelled(digits, count);
-        count += 1;
-        at += 1;
-    }
-    count
-}
-
-// Whether the digits spell a byte at a place.
-fn spells(digits: &[u8], at: usize) -> bool {
-    if at < digits.len() / 2 {
-        digit(digits[2 * at]) != NO_DIGIT && digit(digits[2 * at + 1]) != NO_DIGIT
-    } else {
-        false
-    }
-}
-
-// The byte that the digits spell at a place.
-fn spelled(digits: &[u8], at: usize) -> u8 {
-    if at < digits.len() / 2 {
-        joined(digit(digits[2 * at]), digit(digits[2 * at + 1]))
-    } else {
-        0
-    }
-}
-
-// The byte of two digits' values.
-fn joined(high: u8, low: u8) -> u8 {
-    if high < 16 {
-        if low < 16 {
-            return 16 * high + low;
-        }
-    }
-    0
-}
-
-// A digit's value.
-fn digit(byte: u8) -> u8 {
-    if b'0' <= byte && byte <= b'9' {
-        byte - b'0'
-    } else if b'a' <= byte && byte <= b'f' {
-        byte - b'a' + 10
-    } else {
-        NO_DIGIT
     }
 }

@@ -5,12 +5,11 @@ mod checking_line;
 mod comparing_line;
 mod cursor;
 mod hex;
-mod lines;
 mod matching_line;
 mod number;
 mod printing;
 mod rooms;
 
 fn main() {
-    lines::answer_all();
+    answering::answer_all();
 }

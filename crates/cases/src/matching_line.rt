@@ -2,18 +2,18 @@
 use crate::cursor::NOWHERE;
 use crate::cursor::ends;
 use crate::cursor::past;
-use crate::hex::SPELLED;
 use crate::hex::byte_of;
 use crate::hex::bytes_if_any;
 use crate::hex::bytes_of;
 use crate::number::budget_of;
 use crate::number::size_of;
 use crate::printing::number;
-use crate::printing::text;
 use crate::printing::work;
 use crate::rooms::LARGEST_ROOM;
 use crate::rooms::lay;
-use crate::rooms::part;
+use lines::hex::SPELLED;
+use lines::parts::part;
+use lines::printing::text;
 use matching::Match;
 use matching::fits;
 

@@ -48,12 +48,3 @@ fn lent(fill: u8, earlier: &[u8], at: usize) -> u8 {
         fill
     }
 }
-
-// A part of the bytes, or none where they have no such part.
-pub fn part(bytes: &[u8], from: usize, to: usize) -> &[u8] {
-    if from <= to && to <= bytes.len() {
-        &bytes[from..to]
-    } else {
-        &bytes[0..0]
-    }
-}

@@ -11,7 +11,6 @@ pub mod Enough
 pub mod Along
 pub mod OneOutcome
 pub mod Equality
-pub mod Signed
 pub mod Edges
 pub mod Rooms
 pub mod Looking

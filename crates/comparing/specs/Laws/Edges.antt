@@ -6,6 +6,7 @@ use mathlib.Core.Path.{_≡_, refl}
 use Rattle.cards.specs.Examine.{records-standing, examined, pattern-card}
 use Rattle.cards.specs.Record.{first-records, records}
 use Rattle.cards.specs.Letters.{mentions, those-below}
+use Rattle.cards.specs.Samples.{nothing-card, a, b, a-repeated, a-twice, a-or-empty}
 use Rattle.store.specs.Making.{find-from, find, intern, make}
 use Rattle.store.specs.Loading.{load-after, load}
 use Rattle.derivative.specs.Derivative.{derive-to, derive}
@@ -15,20 +16,29 @@ use Rattle.pairs.specs.Opening.{open-both}
 use Rattle.comparing.specs.ReadOff.{word-to}
 use Rattle.comparing.specs.Search.{by-letters, take-pairs, search}
 use Rattle.comparing.specs.Compare.{are-same, are-different, refused-by, word-room-short, Told, compare-standing, compare-outcome}
-use Rattle.comparing.specs.Laws.Signed.{lent-work, lent-pairs, lent-word, nothing-card, a, b, a-repeated, a-twice, a-or-empty}
+
+-- Bytes of a work room, a pair room and a word room, each as large as a call uses.
+abbrev work : ℕ
+work = 32768
+
+abbrev pairs : ℕ
+pairs = 8192
+
+abbrev word : ℕ
+word = 1024
 
 -- "Pair room of one record: `a*` against itself is "same"."
-pub one-pair-record : compare-outcome a-repeated a-repeated lent-work 8 lent-word 100 .tells ≡ record { says = are-same; pairs = 1; places = 4; visits = 4 }
+pub one-pair-record : compare-outcome a-repeated a-repeated work 8 word 100 .tells ≡ record { says = are-same; pairs = 1; places = 4; visits = 4 }
 unfolding compare-outcome compare-standing tried open-both pattern-card examined records-standing records first-records mentions those-below load load-after make intern find find-from derive derive-to search take-pairs by-letters stands-in word-to
 one-pair-record = refl
 
 -- With no word room the empty word is told, nothing being written ..
-pub empty-word-fits : compare-outcome a-or-empty a lent-work lent-pairs 0 100 .tells ≡ record { says = are-different 0 true; pairs = 0; places = 4; visits = 0 }
+pub empty-word-fits : compare-outcome a-or-empty a work pairs 0 100 .tells ≡ record { says = are-different 0 true; pairs = 0; places = 4; visits = 0 }
 unfolding compare-outcome compare-standing tried open-both pattern-card examined records-standing records first-records mentions those-below load load-after make intern find find-from derive derive-to search take-pairs by-letters stands-in word-to
 empty-word-fits = refl
 
 -- .. and a word of one letter gets 10 with the length wanted.
-pub word-finds-no-room : compare-outcome a a-twice lent-work lent-pairs 0 100 .tells ≡ record { says = word-room-short 1; pairs = 1; places = 4; visits = 3 }
+pub word-finds-no-room : compare-outcome a a-twice work pairs 0 100 .tells ≡ record { says = word-room-short 1; pairs = 1; places = 4; visits = 3 }
 unfolding compare-outcome compare-standing tried open-both pattern-card examined records-standing records first-records mentions those-below load load-after make intern find find-from derive derive-to search take-pairs by-letters stands-in word-to
 word-finds-no-room = refl
 
@@ -38,11 +48,11 @@ unfolding compare-outcome compare-standing tried open-both pattern-card examined
 smallest-room = refl
 
 -- A letter that nothing reaches takes a place and is tried: `a` against itself makes 6 visits, 12 where a loose `b` stands before one of them.
-pub without-loose-letter : compare-outcome a a lent-work lent-pairs lent-word 100 .tells ≡ record { says = are-same; pairs = 3; places = 3; visits = 6 }
+pub without-loose-letter : compare-outcome a a work pairs word 100 .tells ≡ record { says = are-same; pairs = 3; places = 3; visits = 6 }
 unfolding compare-outcome compare-standing tried open-both pattern-card examined records-standing records first-records mentions those-below load load-after make intern find find-from derive derive-to search take-pairs by-letters stands-in word-to
 without-loose-letter = refl
 
-pub with-loose-letter : compare-outcome (b ++ a) a lent-work lent-pairs lent-word 100 .tells ≡ record { says = are-same; pairs = 3; places = 4; visits = 12 }
+pub with-loose-letter : compare-outcome (b ++ a) a work pairs word 100 .tells ≡ record { says = are-same; pairs = 3; places = 4; visits = 12 }
 unfolding compare-outcome compare-standing tried open-both pattern-card examined records-standing records first-records mentions those-below load load-after make intern find find-from derive derive-to search take-pairs by-letters stands-in word-to
 with-loose-letter = refl
 
@@ -69,6 +79,6 @@ pub work-room-next : (pairs word budget : ℕ) → compare-outcome a a 0 pairs w
 unfolding compare-outcome compare-standing pattern-card examined records-standing records first-records
 work-room-next pairs word budget = refl
 
-pub pair-room-last : (word budget : ℕ) → compare-outcome a a lent-work 0 word budget .tells ≡ refused-at-once 6
+pub pair-room-last : (word budget : ℕ) → compare-outcome a a work 0 word budget .tells ≡ refused-at-once 6
 unfolding compare-outcome compare-standing pattern-card examined records-standing records first-records
 pair-room-last word budget = refl

@@ -1,48 +1,28 @@
--- Document 01's edges and signed matches, computed from the outcome's definition.
+-- Document 01's edges of matching, computed from the outcome's definition.
 use Prim.Native.Nat.{ℕ}
 use mathlib.Core.List.{List, [], _∷_}
 use mathlib.Core.Path.{_≡_, refl}
 use lib.ListN.{replicate}
 use Rattle.cards.specs.Examine.{records-standing, examined, pattern-card}
 use Rattle.cards.specs.Record.{first-records, records}
+use Rattle.cards.specs.Samples.{nothing-card, a, repeats-then-b}
 use Rattle.store.specs.Making.{find-from, find, intern, make}
 use Rattle.store.specs.Loading.{load-after, load}
 use Rattle.derivative.specs.Derivative.{derive-to, derive}
 use Rattle.matching.specs.Refusals.{standing-of}
 use Rattle.matching.specs.Fits.{yes, no, refused, follow, fits-in, fits-outcome}
 
--- `(a*)*·b`: a, a*, (a*)*, b, the sequence.
-abbrev starred : List ℕ
-starred =
-    2 ∷ 97 ∷ 0 ∷ 0 ∷ 0 ∷ 0 ∷ 0 ∷ 0
-    ∷ 5 ∷ 0 ∷ 1 ∷ 0 ∷ 0 ∷ 0 ∷ 0 ∷ 0
-    ∷ 5 ∷ 0 ∷ 1 ∷ 0 ∷ 1 ∷ 0 ∷ 0 ∷ 0
-    ∷ 2 ∷ 98 ∷ 0 ∷ 0 ∷ 0 ∷ 0 ∷ 0 ∷ 0
-    ∷ 4 ∷ 0 ∷ 0 ∷ 0 ∷ 2 ∷ 0 ∷ 3 ∷ 0
-    ∷ []
-
-pub on-aa : fits-outcome starred (97 ∷ 97 ∷ []) 32768 100 .tells ≡ record { says = no; places = 9; visits = 13 }
-unfolding fits-outcome fits-in follow standing-of pattern-card examined records-standing records first-records load load-after make intern find find-from derive derive-to
-on-aa = refl
-
-pub on-aab : fits-outcome starred (97 ∷ 97 ∷ 98 ∷ []) 32768 100 .tells ≡ record { says = yes; places = 9; visits = 21 }
-unfolding fits-outcome fits-in follow standing-of pattern-card examined records-standing records first-records load load-after make intern find find-from derive derive-to
-on-aab = refl
-
 -- "A 16-byte work room judges a card of nothing; a letter card gets 7."
-abbrev nothing-card : List ℕ
-nothing-card = replicate 8 0
-
 pub smallest-room : fits-outcome nothing-card [] 16 0 .tells ≡ record { says = no; places = 2; visits = 0 }
 unfolding fits-outcome fits-in follow standing-of pattern-card examined records-standing records first-records load load-after make intern find find-from
 smallest-room = refl
 
-pub letter-finds-no-room : fits-outcome (2 ∷ 97 ∷ replicate 6 0) [] 16 100 .tells ≡ record { says = refused 7; places = 2; visits = 0 }
+pub letter-finds-no-room : fits-outcome a [] 16 100 .tells ≡ record { says = refused 7; places = 2; visits = 0 }
 unfolding fits-outcome fits-in follow standing-of pattern-card examined records-standing records first-records load load-after make intern find find-from
 letter-finds-no-room = refl
 
 -- "Budget 0 with the empty word is judged."
-pub no-budget-no-letter : fits-outcome starred [] 32768 0 .tells ≡ record { says = no; places = 7; visits = 0 }
+pub no-budget-no-letter : fits-outcome repeats-then-b [] 32768 0 .tells ≡ record { says = no; places = 7; visits = 0 }
 unfolding fits-outcome fits-in follow standing-of pattern-card examined records-standing records first-records load load-after make intern find find-from
 no-budget-no-letter = refl
 

@@ -1,0 +1,27 @@
+-- What the call `answer` promises. Document 01: "12: program only: job over 65,536 bytes or not of the form below". Every other text is the text
+-- of one well-formed job, and is answered by the text of that job's outcome.
+use Prim.Native.Nat.{ℕ, _≤_}
+use mathlib.Core.List.{List}
+use mathlib.Core.Path.{_≡_}
+use lib.ListN.{length, take}
+use Rattle.jobtext.specs.Form.{Job, job-text, WellFormed}
+use Rattle.jobtext.specs.Answer.{answer-text, refused-text}
+
+-- The largest number of bytes in a job.
+abbrev pub most-job : ℕ
+most-job = 65536
+
+-- The room lent for an answer, in bytes: the longest answer tells a word of 1,024 bytes in 2,048 digits, and has six short lines besides.
+abbrev pub most-answer : ℕ
+most-answer = 4096
+
+-- What answers a text: the answer to the job that it is the text of, or a refusal by 12 where there is none.
+pub data Answers (text : List ℕ) : List ℕ → Type 0 where
+  answered : (j : Job) → WellFormed j → text ≡ job-text j → length text ≤ most-job → Answers text (answer-text j)
+  refused-12 : ((j : Job) → WellFormed j → text ≡ job-text j → length text ≤ most-job → ⊥) → Answers text (refused-text 12)
+
+-- The answer stands at the start of the room, up to where it ends.
+pub record AnswersIn (text : List ℕ) (to : ℕ) (out : List ℕ) : Type 0 where
+  pub short : to ≤ most-answer
+  pub fits : to ≤ length out
+  pub answers : Answers text (take to out)
