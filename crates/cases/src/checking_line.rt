@@ -1,4 +1,4 @@
-// A line that calls `checking::check`.
+// A line that calls `judge::check`.
 use crate::cursor::NOWHERE;
 use crate::cursor::ends;
 use crate::cursor::past;
@@ -12,8 +12,8 @@ use crate::printing::number;
 use crate::printing::work;
 use crate::rooms::LARGEST_ROOM;
 use crate::rooms::lay;
-use checking::Checked;
-use checking::check;
+use judge::Checked;
+use judge::check;
 use lines::hex::SPELLED;
 use lines::parts::part;
 use lines::printing::text;

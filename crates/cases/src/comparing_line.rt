@@ -1,4 +1,4 @@
-// A line that calls `comparing::compare`.
+// A line that calls `judge::compare`.
 use crate::cursor::NOWHERE;
 use crate::cursor::ends;
 use crate::cursor::past;
@@ -15,8 +15,8 @@ use crate::rooms::LARGEST_ROOM;
 use crate::rooms::as_lent;
 use crate::rooms::lay;
 use crate::rooms::left_as_lent;
-use comparing::Comparison;
-use comparing::compare;
+use judge::Comparison;
+use judge::compare;
 use lines::hex::SPELLED;
 use lines::parts::part;
 use lines::printing::text;

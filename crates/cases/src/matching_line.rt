@@ -1,4 +1,4 @@
-// A line that calls `matching::fits`.
+// A line that calls `judge::fits`.
 use crate::cursor::NOWHERE;
 use crate::cursor::ends;
 use crate::cursor::past;
@@ -11,11 +11,11 @@ use crate::printing::number;
 use crate::printing::work;
 use crate::rooms::LARGEST_ROOM;
 use crate::rooms::lay;
+use judge::Match;
+use judge::fits;
 use lines::hex::SPELLED;
 use lines::parts::part;
 use lines::printing::text;
-use matching::Match;
-use matching::fits;
 
 // What the line says. The bytes of the card, of the word and of the earlier store stand one behind the other, up to these ends.
 struct Call {

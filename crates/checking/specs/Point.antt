@@ -5,7 +5,7 @@ use Prim.Native.Nat.{ℕ, _+_, _<_}
 use mathlib.Core.List.{List}
 use mathlib.Core.Path.{_≡_}
 use lib.ListN.{length}
-use Rattle.language.specs.Laws.Atoms.{Listed}
+use Rattle.language.specs.Word.{Listed}
 use Rattle.cards.specs.declared.record.Record.{Record}
 use Rattle.cards.specs.Record.{child}
 use Rattle.cards.specs.Mark.{marked}

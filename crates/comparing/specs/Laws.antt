@@ -1,4 +1,5 @@
 -- What is proved of the definitions: nothing here has to be believed, each file is checked.
+pub mod Refusals
 pub mod Words
 pub mod Keeps
 pub mod Frontier

@@ -1,7 +1,7 @@
 // Runs document 01's edges and signed matches, and prints what each is told: the answer, places, visits.
 // Before each call its room holds the store of an earlier one.
-use matching::Match;
-use matching::fits;
+use judge::Match;
+use judge::fits;
 
 const STDOUT: i32 = 1;
 

@@ -1,9 +1,9 @@
 // Runs document 01's edges of comparing and checking as compiled code, and prints what each call is told.
 // The rooms of a call hold what the calls before it left there.
-use checking::Checked;
-use checking::check;
-use comparing::Comparison;
-use comparing::compare;
+use judge::Checked;
+use judge::Comparison;
+use judge::check;
+use judge::compare;
 
 const STDOUT: i32 = 1;
 

@@ -289,3 +289,13 @@ module _ (most : ℕ) (card : List ℕ) where
   pub good-mark : examined most card ≡ Good → (at : ℕ) → at < length card / 8
       → child (records card) at .mark ≡ bit (nullable (numbered (patterns (records card)) at))
   good-mark e at l = test-of-mark _ _ (good-right e at l .mark)
+
+-- A card that is refused is refused by a number from 1 to 3.
+pub card-number : (most : ℕ) (card : List ℕ) (number : ℕ) → examined most card ≡ Refused number → number ≤ 3
+card-number most card number e = go e (examined-right most card)
+  where
+    go : {s : Standing} → s ≡ Refused number → Stands most card s → number ≤ 3
+    go e (by-1 _) = let n : 1 ≡ number = cc in omega arith
+    go e (by-2 _ _ _ _ _) = let n : 2 ≡ number = cc in omega arith
+    go e (by-3 _ _ _ _ _ _) = let n : 3 ≡ number = cc in omega arith
+    go e (in-good-standing _ _) = let z : _≡_ {A = ℕ} 0 1 = cc in absurd (omega arith)

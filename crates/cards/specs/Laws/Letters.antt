@@ -9,10 +9,10 @@ use mathlib.Core.Logic.{⊎-elim}
 use mathlib.Core.Path.{_≡_, refl, sym, _∙_, ap}
 use borrow.Author.Tests.{eq-eqb, eqb-true}
 use lib.ListN.{length}
-use Rattle.language.specs.Word.{Bytes}
+use Rattle.language.specs.Word.{Bytes, Listed}
 use Rattle.language.specs.Language.{Pattern}
 use Rattle.language.specs.Laws.Tests.{Tells}
-use Rattle.language.specs.Laws.Atoms.{Listed, atoms}
+use Rattle.language.specs.Laws.Atoms.{atoms}
 use Rattle.cards.specs.declared.kind.Kind.{Kind}
 use Rattle.cards.specs.declared.kind.Kind.the-variants.{Nothing, EmptyWord, Letter, Choice, Sequence, Repeat, Unknown}
 use Rattle.cards.specs.declared.record.Record.{Record}

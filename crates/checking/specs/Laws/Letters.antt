@@ -9,9 +9,8 @@ use mathlib.Core.List.{List, _∷_, List·Memᴰ·head, List·Memᴰ·tail, List
 use mathlib.Core.Logic.{⊎-elim}
 use mathlib.Core.Path.{_≡_, refl, sym, _∙_, ap, subst}
 use lib.ListN.{length}
-use Rattle.language.specs.Word.{IsByte}
+use Rattle.language.specs.Word.{IsByte, Listed}
 use Rattle.language.specs.Laws.Quotient.{Quotient}
-use Rattle.language.specs.Laws.Atoms.{Listed}
 use Rattle.cards.specs.declared.record.Record.{Record}
 use Rattle.store.specs.Laws.Wall.{Grows, grows-refl, grows-trans, grows-length, Ready, Kept, kept-refl, kept-trans, replay, anew}
 use Rattle.store.specs.Laws.Languages.{language-at}

@@ -5,11 +5,10 @@ use native.Mathlib.Omega.{arith}
 use mathlib.Core.List.{List}
 use mathlib.Core.Path.{_≡_, sym, _∙_, subst}
 use lib.ListN.{length}
-use Rattle.language.specs.Word.{IsByte, Word, Bytes}
+use Rattle.language.specs.Word.{IsByte, Word, Bytes, Listed}
 use Rattle.language.specs.Language.{Language, EqualOver, Equal}
 use Rattle.language.specs.Laws.Equality.{equal-sym, equal-trans, equal-narrow}
 use Rattle.language.specs.Laws.Quotient.{Quotient}
-use Rattle.language.specs.Laws.Atoms.{Listed}
 use Rattle.language.specs.Laws.Tables.{Closed, closed-equal}
 use Rattle.language.specs.Laws.StandIn.{Represented, equal-of-tried}
 use Rattle.cards.specs.declared.record.Record.{Record}

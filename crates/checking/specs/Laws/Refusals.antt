@@ -11,14 +11,12 @@ use borrow.Author.Tests.{ltb-true, lt-ltb}
 use lib.ListN.{length, getD}
 use Rattle.language.specs.Word.{Bytes}
 use Rattle.language.specs.Laws.Tests.{and-left, and-right, and-both}
-use Rattle.cards.specs.declared.examine.Standing.{Standing}
 use Rattle.cards.specs.declared.examine.Standing.the-variants.{Good, Refused}
 use Rattle.cards.specs.Record.{records}
-use Rattle.cards.specs.Examine.{_then_, refused-if, examined, most-pattern-records, most-proof-records, pattern-card, proof-card}
-use Rattle.cards.specs.Standing.{Stands, by-1, by-2, by-3, in-good-standing}
+use Rattle.cards.specs.Examine.{_then_, refused-if, most-pattern-records, most-proof-records, pattern-card, proof-card}
 use Rattle.cards.specs.Laws.Order.{both-good, not-refused, then-number, if-number}
 use Rattle.cards.specs.Laws.Record.{record-at-place, length-records, fitting-of, bytes-drop}
-use Rattle.cards.specs.Laws.Examine.{examined-right, good-right}
+use Rattle.cards.specs.Laws.Examine.{good-right, card-number}
 use Rattle.store.specs.Room.{wrong-room}
 use Rattle.store.specs.Laws.Loading.{GoodCard}
 use Rattle.pairs.specs.declared.pair.Pair.{Pair}
@@ -62,16 +60,6 @@ unrefused left right proof list work e =
 pub no-refusal : (left right proof list : List ℕ) (work : ℕ) → Unrefused left right proof list work → check-standing left right proof list work ≡ Good
 unfolding check-standing
 no-refusal left right proof list work u = rw (u .left-good, u .right-good, u .proof-good, u .room-legal, u .list-legal, u .named)
-
--- A card that is refused is refused by a number from 1 to 3.
-card-number : (most : ℕ) (card : List ℕ) (number : ℕ) → examined most card ≡ Refused number → number ≤ 3
-card-number most card number e = go e (examined-right most card)
-  where
-    go : {s : Standing} → s ≡ Refused number → Stands most card s → number ≤ 3
-    go e (by-1 _) = let n : 1 ≡ number = cc in omega arith
-    go e (by-2 _ _ _ _ _) = let n : 2 ≡ number = cc in omega arith
-    go e (by-3 _ _ _ _ _ _) = let n : 3 ≡ number = cc in omega arith
-    go e (in-good-standing _ _) = let z : _≡_ {A = ℕ} 0 1 = cc in absurd (omega arith)
 
 -- The numbers of a refusal at once.
 pub data AtOnce (number : ℕ) : Type 0 where

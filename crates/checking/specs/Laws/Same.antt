@@ -8,9 +8,8 @@ use mathlib.Core.List.{List, [], _∷_, append-nil}
 use mathlib.Core.Path.{_≡_, refl, sym, _∙_, ap, ap₂, subst}
 use lib.Dec.{ltb}
 use lib.ListN.{length, getD}
-use Rattle.language.specs.Word.{Bytes, IsByte}
+use Rattle.language.specs.Word.{Bytes, IsByte, Listed}
 use Rattle.language.specs.Language.{Language, language}
-use Rattle.language.specs.Laws.Atoms.{Listed}
 use Rattle.cards.specs.declared.record.Record.{Record}
 use Rattle.cards.specs.declared.examine.Standing.{Standing}
 use Rattle.cards.specs.declared.examine.Standing.the-variants.{Good as GoodStanding, Refused}
@@ -36,7 +35,7 @@ use Rattle.comparing.specs.Cost.{list-cost}
 use Rattle.comparing.specs.Search.{Search, same, different, stopped, search}
 use Rattle.comparing.specs.Compare.{compare-standing, are-same, are-different, word-room-short, refused-by, of-search, search-opened, compare-by, compare-outcome, Outcome as Comparing, told-at as told-comparing}
 use Rattle.comparing.specs.Laws.Course.{SearchCourse, course-same, course-different, course-stopped, search-course}
-use Rattle.comparing.specs.Laws.Counts.{unrefused}
+use Rattle.comparing.specs.Laws.Refusals.{unrefused}
 use Rattle.comparing.specs.Laws.Search.{Ends, ends-same, ends-different, ends-stopped, search-law}
 use Rattle.checking.specs.Check.{check-list}
 use Rattle.checking.specs.Outcome.{mapped, is-accepted, told-at, of-checking, check-loaded, check-opened, check-by, check-outcome}

@@ -10,9 +10,8 @@ use mathlib.Core.Path.{_≡_, refl, sym}
 use lib.Dec.{ltb}
 use borrow.Author.Tests.{ltb-true}
 use lib.ListN.{length, length-append}
-use Rattle.language.specs.Word.{Bytes, IsByte}
+use Rattle.language.specs.Word.{Bytes, IsByte, Listed}
 use Rattle.language.specs.Laws.Quotient.{Quotient}
-use Rattle.language.specs.Laws.Atoms.{Listed}
 use Rattle.cards.specs.declared.record.Record.{Record}
 use Rattle.cards.specs.declared.examine.Standing.{Standing}
 use Rattle.cards.specs.declared.examine.Standing.the-variants.{Good, Refused}
@@ -35,7 +34,7 @@ use Rattle.comparing.specs.Search.{Search, same, different, stopped, Goi
 use Rattle.comparing.specs.Compare.{compare-standing, Outcome, word-room-short, are-different, told-at, of-search, search-opened, compare-by, compare-outcome}
 use Rattle.comparing.specs.Along.{visits-made, letter-visits, letters-visits, pairs-visits, search-visits, opened-visits, standing-visits, compare-visits}
 use Rattle.comparing.specs.Laws.Words.{pair-kept, pair-new}
-use Rattle.comparing.specs.Laws.Compare.{unrefused}
+use Rattle.comparing.specs.Laws.Refusals.{unrefused}
 
 -- The places of every pair stand in the store.
 
@@ -296,5 +295,5 @@ compare-visits-told left right lefts rights work pairs word budget = go (compare
         → compare-by s left right work pairs word budget .tells .visits ≡ standing-visits s left right work pairs budget
     go (Refused number) e = refl
     go Good e =
-        let u = unrefused left right lefts rights work pairs word budget e in
-        opened-told (open-law left right lefts rights work (u .0) (u .1) (u .2))
+        let u = unrefused left right work pairs e in
+        opened-told (open-law left right lefts rights work (u .left-good) (u .right-good) (u .room-legal))

@@ -40,7 +40,7 @@ use Rattle.comparing.specs.Promise.{TrueVerdict, Leaves, Compares}
 use Rattle.comparing.specs.Told.{LegalPairs, end-store}
 use Rattle.comparing.specs.Laws.Compare.{compare-true}
 use Rattle.comparing.specs.Laws.Keeps.{KeepsSearch, keeps-same, keeps-different, keeps-stopped, search-keeps}
-use Rattle.comparing.specs.Laws.Counts.{Unrefused, unrefused}
+use Rattle.comparing.specs.Laws.Refusals.{Unrefused, unrefused}
 
 -- The store that an outcome leaves is the search's.
 outcome-store : (word budget : ℕ) (s : Search) → of-search word budget s .store ≡ end-store s

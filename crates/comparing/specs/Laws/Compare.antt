@@ -15,11 +15,9 @@ use Rattle.cards.specs.declared.record.Record.{Record}
 use Rattle.cards.specs.declared.examine.Standing.{Standing}
 use Rattle.cards.specs.declared.examine.Standing.the-variants.{Good, Refused}
 use Rattle.cards.specs.Record.{records}
-use Rattle.cards.specs.Examine.{_then_, refused-if, pattern-card}
+use Rattle.cards.specs.Examine.{pattern-card}
 use Rattle.cards.specs.Meaning.{card-pattern}
-use Rattle.cards.specs.Laws.Order.{both-good, not-refused}
 use Rattle.store.specs.Room.{wrong-room}
-use Rattle.pairs.specs.Room.{wrong-pair-room}
 use Rattle.pairs.specs.Tried.{tried}
 use Rattle.pairs.specs.Opening.{Opening}
 use Rattle.pairs.specs.Laws.Tried.{tried-rise, tried-bytes, tried-represent}
@@ -27,6 +25,7 @@ use Rattle.pairs.specs.Laws.Opening.{OpenLaw, both-opened, was-filled, open-law
 use Rattle.comparing.specs.Search.{Search}
 use Rattle.comparing.specs.Compare.{compare-standing, Verdict, are-same, are-different, refused-by, word-room-short, Outcome, told-at, of-search, search-opened, compare-by, compare-outcome}
 use Rattle.comparing.specs.Promise.{FirstWord, TrueVerdict, same-true, different-true, short-true, refused-true}
+use Rattle.comparing.specs.Laws.Refusals.{unrefused}
 use Rattle.comparing.specs.Laws.Search.{Ends, ends-same, ends-different, ends-stopped, search-law}
 use Rattle.comparing.specs.Laws.Meaning.{same-equal, first-of-all}
 
@@ -76,15 +75,6 @@ module _ (left right : List ℕ) (lefts : Bytes left) (rights : Bytes right) (wo
     good-law : True (compare-by Good left right work pairs word budget)
     good-law = opened-law (open-law left right lefts rights work left-good right-good room-legal)
 
-  -- Where a call is not refused at once.
-  pub unrefused : compare-standing left right work pairs ≡ Good → (pattern-card left ≡ Good) × (pattern-card right ≡ Good) × (wrong-room work ≡ false)
-  unfolding compare-standing
-  unrefused e =
-      let a = both-good (pattern-card left) (pattern-card right then refused-if (wrong-room work) 5 then refused-if (wrong-pair-room pairs) 6) e in
-      let b = both-good (pattern-card right) (refused-if (wrong-room work) 5 then refused-if (wrong-pair-room pairs) 6) (a .1) in
-      let c = both-good (refused-if (wrong-room work) 5) (refused-if (wrong-pair-room pairs) 6) (b .1) in
-      (a .0, b .0, not-refused (wrong-room work) 5 (c .0))
-
   -- Every verdict is true.
   pub compare-true :
       TrueVerdict (language (card-pattern left)) (language (card-pattern right)) (compare-outcome left right work pairs word budget .tells .pairs) word
@@ -95,4 +85,4 @@ module _ (left right : List ℕ) (lefts : Bytes left) (rights : Bytes right) (wo
     where
       go : (s : Standing) → compare-standing left right work pairs ≡ s → True (compare-by s left right work pairs word budget)
       go (Refused number) e = refused-true
-      go Good e = let p = unrefused e in good-law (p .0) (p .1) (p .2)
+      go Good e = let u = unrefused left right work pairs e in good-law (u .left-good) (u .right-good) (u .room-legal)

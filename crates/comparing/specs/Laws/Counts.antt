@@ -5,7 +5,6 @@ use Prim.Native.Nat.{ℕ, _-_, _/_, _≤_}
 use native.Mathlib.Omega.{arith}
 use mathlib.Core.Bool.{Bool, true, false}
 use mathlib.Core.List.{List, []}
-use mathlib.Core.Logic.{⊎-elim}
 use mathlib.Core.Path.{_≡_, refl}
 use lib.Dec.{ltb}
 use lib.ListN.{length}
@@ -13,74 +12,19 @@ use Rattle.language.specs.Word.{Bytes}
 use Rattle.cards.specs.declared.record.Record.{Record}
 use Rattle.cards.specs.declared.examine.Standing.{Standing}
 use Rattle.cards.specs.declared.examine.Standing.the-variants.{Good, Refused}
-use Rattle.cards.specs.Examine.{_then_, refused-if, most-pattern-records, pattern-card}
-use Rattle.cards.specs.Standing.{Stands, by-1, by-2, by-3, in-good-standing}
-use Rattle.cards.specs.Laws.Examine.{examined-right}
-use Rattle.cards.specs.Laws.Order.{both-good, not-refused, then-number, if-number}
-use Rattle.store.specs.Room.{fresh-store, wrong-room}
+use Rattle.store.specs.Room.{fresh-store}
 use Rattle.store.specs.Laws.Wall.{Filled}
 use Rattle.pairs.specs.declared.pair.Pair.{Pair}
-use Rattle.pairs.specs.Room.{wrong-pair-room}
 use Rattle.pairs.specs.Tried.{tried}
 use Rattle.pairs.specs.Opening.{Opening}
 use Rattle.pairs.specs.Laws.Tried.{tried-bytes}
 use Rattle.pairs.specs.Laws.Opening.{BothOpened, OpenLaw, both-opened, was-filled, open-law}
 use Rattle.comparing.specs.Search.{Search}
 use Rattle.comparing.specs.Compare.{compare-standing, Verdict, are-same, are-different, refused-by, word-room-short, Outcome, told-at, of-search, search-opened, compare-by, compare-outcome}
+use Rattle.comparing.specs.Laws.Refusals.{Unrefused, unrefused, no-refusal, at-once-number}
 use Rattle.comparing.specs.Laws.Search.{Halts, no-free-place, nothing-left, no-free-pair}
 use Rattle.comparing.specs.Laws.Keeps.{KeepsSearch, keeps-same, keeps-different, keeps-stopped, search-keeps}
 use Rattle.comparing.specs.Laws.Course.{SearchCourse, course-same, course-different, course-stopped, search-course}
-
--- A call that is not refused at once.
-pub record Unrefused (left right : List ℕ) (work pairs : ℕ) : Type 0 where
-  pub left-good : pattern-card left ≡ Good
-  pub right-good : pattern-card right ≡ Good
-  pub room-legal : wrong-room work ≡ false
-  pub pair-room-legal : wrong-pair-room pairs ≡ false
-
--- The standing is good where no refusal is due, and only then.
-module _ (left right : List ℕ) (work pairs : ℕ) where
-  pub unrefused : compare-standing left right work pairs ≡ Good → Unrefused left right work pairs
-  unfolding compare-standing
-  unrefused e =
-      let a = both-good (pattern-card left) (pattern-card right then refused-if (wrong-room work) 5 then refused-if (wrong-pair-room pairs) 6) e in
-      let b = both-good (pattern-card right) (refused-if (wrong-room work) 5 then refused-if (wrong-pair-room pairs) 6) (a .1) in
-      let c = both-good (refused-if (wrong-room work) 5) (refused-if (wrong-pair-room pairs) 6) (b .1) in
-      record {
-        left-good = a .0;
-        right-good = b .0;
-        room-legal = not-refused (wrong-room work) 5 (c .0);
-        pair-room-legal = not-refused (wrong-pair-room pairs) 6 (c .1);
-      }
-
-  pub no-refusal : Unrefused left right work pairs → compare-standing left right work pairs ≡ Good
-  unfolding compare-standing
-  no-refusal u = rw (u .left-good, u .right-good, u .room-legal, u .pair-room-legal)
-
--- A call that is refused at once is refused by a number from 1 to 6.
-
-card-number : (card : List ℕ) (number : ℕ) → pattern-card card ≡ Refused number → number ≤ 3
-unfolding pattern-card
-card-number card number e = go e (examined-right most-pattern-records card)
-  where
-    go : {s : Standing} → s ≡ Refused number → Stands most-pattern-records card s → number ≤ 3
-    go e (by-1 _) = let n : 1 ≡ number = cc in omega arith
-    go e (by-2 _ _ _ _ _) = let n : 2 ≡ number = cc in omega arith
-    go e (by-3 _ _ _ _ _ _) = let n : 3 ≡ number = cc in omega arith
-    go e (in-good-standing _ _) = let z : _≡_ {A = ℕ} 0 1 = cc in absurd (omega arith)
-
-pub at-once-number : (left right : List ℕ) (work pairs number : ℕ) → compare-standing left right work pairs ≡ Refused number → number ≤ 6
-unfolding compare-standing
-at-once-number left right work pairs number e =
-    ⊎-elim (λ f. let n = card-number left number f in omega arith)
-    (λ f.
-    ⊎-elim (λ g. let n = card-number right number g in omega arith)
-    (λ g.
-    ⊎-elim (λ h. let n = if-number (wrong-room work) 5 number h in omega arith)
-    (λ h. let n = if-number (wrong-pair-room pairs) 6 number h in omega arith)
-    (then-number (refused-if (wrong-room work) 5) (refused-if (wrong-pair-room pairs) 6) number g))
-    (then-number (pattern-card right) (refused-if (wrong-room work) 5 then refused-if (wrong-pair-room pairs) 6) number f))
-    (then-number (pattern-card left) (pattern-card right then refused-if (wrong-room work) 5 then refused-if (wrong-pair-room pairs) 6) number e)
 
 -- How a call comes to its outcome.
 pub data Call (left right : List ℕ) (work pairs word budget : ℕ) : Outcome → Type 0 where

@@ -26,7 +26,8 @@ use Rattle.comparing.specs.Cost.{list-cost}
 use Rattle.comparing.specs.Compare.{compare-standing, Verdict, are-same, are-different, refused-by, word-room-short, Outcome, told-at, of-search, search-opened, compare-by, compare-outcome}
 use Rattle.comparing.specs.Laws.Keeps.{KeepsSearch, keeps-same, keeps-different, keeps-stopped}
 use Rattle.comparing.specs.Laws.Course.{SearchCourse, course-same, course-different, course-stopped}
-use Rattle.comparing.specs.Laws.Counts.{Unrefused, no-refusal, Call, refused-at-once, full-in-opening, searched, call, of-word, compare-counts}
+use Rattle.comparing.specs.Laws.Refusals.{Unrefused, no-refusal}
+use Rattle.comparing.specs.Laws.Counts.{Call, refused-at-once, full-in-opening, searched, call, of-word, compare-counts}
 
 -- A final answer: same or different.
 pub data Final : Verdict → Type 0 where

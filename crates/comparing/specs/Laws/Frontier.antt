@@ -8,14 +8,13 @@ use mathlib.Core.List.{List, [], _∷_, _++_, append-assoc, append-nil, List·Me
 use mathlib.Core.Logic.{_⊎_, inl, inr, ⊎-elim}
 use mathlib.Core.Path.{_≡_, refl, sym, _∙_, ap, subst}
 use lib.ListN.{length, length-append}
-use Rattle.language.specs.Word.{Word, Over, none, one, IsByte}
+use Rattle.language.specs.Word.{Word, Over, none, one, IsByte, Listed}
 use Rattle.language.specs.Language.{Language, Equal}
 use Rattle.language.specs.Order.{Before, shorter}
 use Rattle.language.specs.Laws.Equality.{equal-sym, equal-trans}
 use Rattle.language.specs.Laws.Words.{over-join, front-over, back-over}
 use Rattle.language.specs.Laws.Quotient.{Quotient, Quotients}
 use Rattle.language.specs.Laws.Derivative.{quotient-equal}
-use Rattle.language.specs.Laws.Atoms.{Listed}
 use Rattle.language.specs.Laws.Order.{before-irrefl, before-trans, before-more, before-last, before-fronts}
 use Rattle.cards.specs.declared.record.Record.{Record}
 use Rattle.cards.specs.Record.{child}

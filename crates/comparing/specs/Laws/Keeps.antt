@@ -10,8 +10,7 @@ use mathlib.Core.Path.{_≡_, refl, sym, _∙_, ap}
 use lib.Dec.{ltb}
 use borrow.Author.Tests.{ltb-true}
 use lib.ListN.{length, length-append}
-use Rattle.language.specs.Word.{IsByte}
-use Rattle.language.specs.Laws.Atoms.{Listed}
+use Rattle.language.specs.Word.{IsByte, Listed}
 use Rattle.language.specs.Laws.Quotient.{Quotient}
 use Rattle.cards.specs.declared.record.Record.{Record}
 use Rattle.cards.specs.Record.{child}

@@ -4,11 +4,10 @@ use Prim.Native.Nat.{ℕ, _<_}
 use mathlib.Core.List.{List, []}
 use mathlib.Core.Path.{sym, _∙_}
 use lib.ListN.{length}
-use Rattle.language.specs.Word.{Word, Over, Bytes, IsByte}
+use Rattle.language.specs.Word.{Word, Over, Bytes, IsByte, Listed}
 use Rattle.language.specs.Language.{Language, EqualOver, Equal}
 use Rattle.language.specs.Order.{Before}
 use Rattle.language.specs.Laws.Equality.{equal-sym, equal-trans, equal-narrow}
-use Rattle.language.specs.Laws.Atoms.{Listed}
 use Rattle.language.specs.Laws.Tables.{Closed, closed-equal}
 use Rattle.language.specs.Laws.StandIn.{Represented, in-neither, by-stand-in, equal-of-tried}
 use Rattle.cards.specs.declared.record.Record.{Record}

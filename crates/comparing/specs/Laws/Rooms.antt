@@ -12,8 +12,7 @@ use lib.Dec.{ltb}
 use borrow.Author.Tests.{lt-ltb, le-ltb}
 use lib.ListN.{length, getD, drop, drop-of-length-le, length-append}
 use lib.Seq.{drop-cons}
-use Rattle.language.specs.Word.{Word, Over, none, one, Bytes, IsByte}
-use Rattle.language.specs.Laws.Atoms.{Listed}
+use Rattle.language.specs.Word.{Word, Over, none, one, Bytes, IsByte, Listed}
 use Rattle.cards.specs.declared.record.Record.{Record}
 use Rattle.cards.specs.Record.{child}
 use Rattle.cards.specs.Mark.{marked}

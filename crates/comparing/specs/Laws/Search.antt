@@ -9,7 +9,7 @@ use mathlib.Core.Path.{_≡_, refl, sym, _∙_, ap, subst}
 use lib.Dec.{eqb, ltb}
 use borrow.Author.Tests.{eqb-true, ltb-true, ltb-false}
 use lib.ListN.{length, List·getD-append, length-append}
-use Rattle.language.specs.Word.{Word, Over, none, one, IsByte}
+use Rattle.language.specs.Word.{Word, Over, none, one, IsByte, Listed}
 use Rattle.language.specs.Language.{Language, Equal}
 use Rattle.language.specs.Order.{Before}
 use Rattle.language.specs.Laws.Order.{empty-first}
@@ -18,7 +18,6 @@ use Rattle.language.specs.Laws.Words.{over-join}
 use Rattle.language.specs.Laws.Equality.{equal-sym, equal-trans}
 use Rattle.language.specs.Laws.Quotient.{Quotient, Quotients, quotients-to, quotients-from}
 use Rattle.language.specs.Laws.Derivative.{nullable-right, quotient-equal}
-use Rattle.language.specs.Laws.Atoms.{Listed}
 use Rattle.cards.specs.declared.record.Record.{Record}
 use Rattle.cards.specs.Record.{child}
 use Rattle.cards.specs.Mark.{marked}

@@ -7,24 +7,25 @@ use mathlib.Core.Path.{_≡_, sym, _∙_, ap, ap₂, subst}
 use lib.ListN.{length, take, drop, replicate, length-append, length-replicate}
 use lib.Seq.{take-append-seam, length-take-le}
 use Rattle.language.specs.Language.{Language}
-use Rattle.matching.specs.declared.Match.{Match}
 use Rattle.matching.specs.Fits.{told as told-match, fits-outcome}
 use Rattle.matching.specs.Promise.{Fits}
-use Rattle.comparing.specs.declared.Comparison.{Comparison}
-use Rattle.comparing.specs.declared.Comparison.the-variants.{Different}
 use Rattle.comparing.specs.Compare.{Verdict, are-different, Told, told, Outcome, compare-outcome}
 use Rattle.comparing.specs.Promise.{TrueVerdict, same-true, different-true, short-true, refused-true, Compares}
+use Rattle.judge.specs.declared.Match.{Match}
+use Rattle.judge.specs.declared.Comparison.{Comparison}
+use Rattle.judge.specs.declared.Comparison.the-variants.{Different}
+use Rattle.judge.specs.Answers.{as-match, as-comparison}
 use Rattle.jobtext.specs.Form.{compare-job, match-job}
 use Rattle.jobtext.specs.Answer.{lent-work, lent-pairs, lent-word, side, different-text, comparison-text, match-text, answer-text}
 use Rattle.jobtext.specs.Told.{Lays}
 
 -- A match: the text of what it tells is the job's answer.
-pub match-laid : {left word work : List ℕ} {budget : ℕ} {m : Match} {work′ : List ℕ} {to : ℕ} {out : List ℕ} → Fits left word work budget m work′
-    → length work ≡ lent-work → (x : Match) → m ≡ x → Lays (match-text (told-match x)) to out → Lays (answer-text (match-job left word budget)) to out
+pub match-laid : {left word work : List ℕ} {budget : ℕ} {m : Match} {work′ : List ℕ} {to : ℕ} {out : List ℕ} → Fits left word work budget (as-match m) work′
+    → length work ≡ lent-work → (x : Match) → m ≡ x → Lays (match-text (told-match (as-match x))) to out → Lays (answer-text (match-job left word budget)) to out
 unfolding answer-text
 match-laid {left} {word} {budget = budget} {m = m} {to = to} {out} f n x e lay =
     subst (λ (text : List ℕ). Lays text to out)
-    (ap (λ (y : Match). match-text (told-match y)) (sym e) ∙ ap match-text (f .tells)
+    (ap (λ (y : Match). match-text (told-match (as-match y))) (sym e) ∙ ap match-text (f .tells)
     ∙ ap (λ (size : ℕ). match-text (fits-outcome left word size budget .tells)) n)
     lay
 
@@ -56,13 +57,13 @@ same-outcome left right {work} {pairs} {word} budget l =
 
 -- A comparison: the text of what it tells, with the word written, is the job's answer.
 pub comparison-laid : {left right work pairs word : List ℕ} {budget : ℕ} {c : Comparison} {work′ pairs′ word′ : List ℕ} {to : ℕ} {out : List ℕ}
-    → Compares left right work pairs word budget c work′ pairs′ word′ → Lent work pairs word → (x : Comparison) → c ≡ x
-    → Lays (comparison-text (told x) (outcome-in left right work pairs word budget .written)) to out
+    → Compares left right work pairs word budget (as-comparison c) work′ pairs′ word′ → Lent work pairs word → (x : Comparison) → c ≡ x
+    → Lays (comparison-text (told (as-comparison x)) (outcome-in left right work pairs word budget .written)) to out
     → Lays (answer-text (compare-job left right budget)) to out
 unfolding answer-text
 comparison-laid {left} {right} {work} {pairs} {word} {budget} {c} {to = to} {out} f l x e lay =
     subst (λ (text : List ℕ). Lays text to out)
-    (ap (λ (y : Comparison). comparison-text (told y) (outcome-in left right work pairs word budget .written)) (sym e)
+    (ap (λ (y : Comparison). comparison-text (told (as-comparison y)) (outcome-in left right work pairs word budget .written)) (sym e)
     ∙ ap (λ (t : Told). comparison-text t (outcome-in left right work pairs word budget .written)) (f .leaves .tells)
     ∙ ap (λ (o : Outcome). comparison-text (o .tells) (o .written)) (same-outcome left right budget l))
     lay
@@ -85,11 +86,11 @@ pub record WordStands (n : ℕ) (word′ written : List ℕ) : Type 0 where
   pub stands : take n word′ ≡ written
 
 pub word-stands : {left right work pairs word : List ℕ} {budget : ℕ} {c : Comparison} {work′ pairs′ word′ : List ℕ} {n : ℕ} {h : Bool} {p pl v : ℕ}
-    → Compares left right work pairs word budget c work′ pairs′ word′ → Lent work pairs word → c ≡ Different n h p pl v
+    → Compares left right work pairs word budget (as-comparison c) work′ pairs′ word′ → Lent work pairs word → c ≡ Different n h p pl v
     → WordStands n word′ (outcome-in left right work pairs word budget .written)
 word-stands {left} {right} {work} {pairs} {word} {budget} {word′ = word′} {n = n} f l e =
     let o = outcome-in left right work pairs word budget .written in
-    let w = word-is (f .means) (ap (λ (y : Comparison). told y .says) e) in
+    let w = word-is (f .means) (ap (λ (y : Comparison). told (as-comparison y) .says) e) in
     let s = f .leaves .word-room in
     let k = ap (λ (x : List ℕ). length x) s in
     let m = w .long in
@@ -112,7 +113,7 @@ word-short {n} {word′} w =
     omega (arith, length-take-le n word′ l, ap (λ (x : List ℕ). length x) (from-start n word′))
 
 pub different-laid : {left right work pairs word : List ℕ} {budget : ℕ} {c : Comparison} {work′ pairs′ word′ : List ℕ} {to : ℕ} {out : List ℕ} {n : ℕ}
-    {h : Bool} {p pl v : ℕ} → Compares left right work pairs word budget c work′ pairs′ word′ → Lent work pairs word → c ≡ Different n h p pl v
+    {h : Bool} {p pl v : ℕ} → Compares left right work pairs word budget (as-comparison c) work′ pairs′ word′ → Lent work pairs word → c ≡ Different n h p pl v
     → (s : List ℕ) → side h ≡ s → Lays (different-text (take (n - 0) word′) s p pl v) to out → Lays (answer-text (compare-job left right budget)) to out
 different-laid {left} {right} {work} {pairs} {word} {budget} {word′ = word′} {to} {out} {n} {h} {p} {pl} {v} f l e s g lay =
     comparison-laid f l (Different n h p pl v) e

@@ -1,15 +1,11 @@
 -- The letters that a pattern mentions, its atoms: document 004, definition 2.5. A word of its language has no other letter.
 use Prim.Native.Nat.{ℕ, zero, suc}
-use mathlib.Core.List.{List, [], _∷_, _++_, List·Memᴰ, List·Memᴰ·head, Memᴰ·append-left, Memᴰ·append-right}
+use mathlib.Core.List.{List, [], _∷_, _++_, List·Memᴰ·head, Memᴰ·append-left, Memᴰ·append-right}
 use mathlib.Core.Logic.{inl, inr}
 use mathlib.Core.Path.{refl, sym, subst}
-use Rattle.language.specs.Word.{Word, Over, none, one}
+use Rattle.language.specs.Word.{Word, Over, none, one, Listed}
 use Rattle.language.specs.Language.{Language, Concatenation, Power, Pattern, nothing, empty-word, letter, choice, sequence, repeat, language}
 use Rattle.language.specs.Laws.Words.{over-join, over-wider}
-
--- The number stands in the list.
-abbrev pub Listed : List ℕ → ℕ → Type 0
-Listed l c = List·Memᴰ c l
 
 -- 2.5: atoms.
 unfoldable pub atoms : Pattern → List ℕ

@@ -8,11 +8,11 @@ use mathlib.Core.Logic.{_⊎_, inl, ⊎-elim}
 use mathlib.Core.Path.{_≡_, refl}
 use lib.Dec.{eqb}
 use borrow.Author.Tests.{eqb-true, eqb-false}
-use Rattle.language.specs.Word.{Word, Over, none, one, Bytes}
+use Rattle.language.specs.Word.{Word, Over, none, one, Bytes, Listed}
 use Rattle.language.specs.Language.{Language, Pattern, language, EqualOver, Equal}
 use Rattle.language.specs.Order.{Before}
 use Rattle.language.specs.Laws.Words.{over-wider}
-use Rattle.language.specs.Laws.Atoms.{Listed, atoms, only-atoms}
+use Rattle.language.specs.Laws.Atoms.{atoms, only-atoms}
 
 -- The word v speaks for the word w in the language A.
 pub record Speaks (A : Language) (v w : Word) : Type 0 where

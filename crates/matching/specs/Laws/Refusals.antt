@@ -7,12 +7,10 @@ use mathlib.Core.Logic.{⊎-elim}
 use mathlib.Core.Path.{_≡_}
 use lib.Dec.{ltb}
 use lib.ListN.{length}
-use Rattle.cards.specs.declared.examine.Standing.{Standing}
 use Rattle.cards.specs.declared.examine.Standing.the-variants.{Good, Refused}
 use Rattle.cards.specs.Examine.{_then_, refused-if, most-pattern-records, pattern-card}
 use Rattle.cards.specs.Laws.Order.{both-good, not-refused, then-number, if-number}
-use Rattle.cards.specs.Laws.Examine.{examined-right}
-use Rattle.cards.specs.Standing.{Stands, by-1, by-2, by-3, in-good-standing}
+use Rattle.cards.specs.Laws.Examine.{card-number}
 use Rattle.store.specs.Room.{wrong-room}
 use Rattle.matching.specs.Refusals.{most-word, standing-of, match-standing}
 
@@ -38,20 +36,10 @@ unfolding standing-of
 no-refusal card word size u = rw (u .card-good, u .word-short, u .room-legal)
 
 -- A call that is refused at once is refused by a number from 1 to 5.
-card-number : (card : List ℕ) (number : ℕ) → pattern-card card ≡ Refused number → number ≤ 3
-unfolding pattern-card
-card-number card number e = go e (examined-right most-pattern-records card)
-  where
-    go : {s : Standing} → s ≡ Refused number → Stands most-pattern-records card s → number ≤ 3
-    go e (by-1 _) = let n : 1 ≡ number = cc in omega arith
-    go e (by-2 _ _ _ _ _) = let n : 2 ≡ number = cc in omega arith
-    go e (by-3 _ _ _ _ _ _) = let n : 3 ≡ number = cc in omega arith
-    go e (in-good-standing _ _) = let z : _≡_ {A = ℕ} 0 1 = cc in absurd (omega arith)
-
 pub at-once-number : (card word : List ℕ) (size number : ℕ) → match-standing card word size ≡ Refused number → number ≤ 5
-unfolding standing-of
+unfolding standing-of pattern-card
 at-once-number card word size number e =
-    ⊎-elim (λ f. let n = card-number card number f in omega arith)
+    ⊎-elim (λ f. let n = card-number most-pattern-records card number f in omega arith)
     (λ f.
     ⊎-elim (λ g. let n = if-number (ltb most-word (length word)) 4 number g in omega arith)
     (λ g. let n = if-number (wrong-room size) 5 number g in omega arith)

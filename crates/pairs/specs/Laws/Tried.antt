@@ -9,9 +9,9 @@ use mathlib.Core.Logic.{⊎-elim}
 use mathlib.Core.Path.{_≡_, refl, _∙_, ap}
 use lib.ListN.{length, take, set, length-set, length-append}
 use lib.Seq.{take-suc-set}
-use Rattle.language.specs.Word.{Word, Bytes, IsByte}
+use Rattle.language.specs.Word.{Word, Bytes, IsByte, Listed}
 use Rattle.language.specs.Language.{language}
-use Rattle.language.specs.Laws.Atoms.{Listed, atoms}
+use Rattle.language.specs.Laws.Atoms.{atoms}
 use Rattle.language.specs.Laws.StandIn.{Represented, represented}
 use Rattle.cards.specs.Record.{records}
 use Rattle.cards.specs.Meaning.{card-pattern}

@@ -3,7 +3,7 @@
 use mathlib.Core.Path.{ap}
 use lib.Dec.{lit≤}
 use borrow.Author.Needs.{needs}
-use Rattle.comparing.specs.declared.Comparison.the-variants.{Same, Refused, WordRoomShort}
+use Rattle.judge.specs.declared.Comparison.the-variants.{Same, Refused, WordRoomShort}
 use Rattle.jobtext.specs.Ascii.{ascii}
 use Rattle.jobtext.specs.Answer.{side}
 use Rattle.jobtext.specs.Laws.Judging.{made-rooms, comparison-laid, word-stands, word-short, different-laid}

@@ -1,6 +1,6 @@
 -- `match_job` lays down what `fits` tells: its one outcome in a room of the size that is lent.
 use borrow.Author.Needs.{needs}
-use Rattle.matching.specs.declared.Match.the-variants.{Yes, No, Refused}
+use Rattle.judge.specs.declared.Match.the-variants.{Yes, No, Refused}
 use Rattle.jobtext.specs.Ascii.{ascii}
 use Rattle.jobtext.specs.Laws.Judging.{made-rooms, match-laid}
 use Rattle.jobtext.proofs.judging.match_job.Statement.{statement}
