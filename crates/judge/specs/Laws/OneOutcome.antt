@@ -1,5 +1,5 @@
--- Each call has one answer: two answers that both meet the promise are the same, whatever rooms of the same sizes held. The rooms that are left
--- are the same by the laws of the crates below, which speak of the same promises. And the paper's number and values tell any two answers apart.
+-- Each call has one outcome: two answers with the rooms they leave, that both meet the promise, are the same, as values and byte for byte in every room.
+-- The answers are the same whatever rooms of the same sizes held. And the paper's number and values tell any two answers apart.
 use Prim.Native.Nat.{ℕ}
 use mathlib.Core.List.{List}
 use mathlib.Core.Path.{_≡_, refl, sym, _∙_, ap}
@@ -8,17 +8,17 @@ use Rattle.matching.specs.declared.Match.{Match as MatchBelow}
 use Rattle.matching.specs.declared.Match.the-variants.{Yes as YesBelow, No as NoBelow, Refused as RefusedMatch}
 use Rattle.matching.specs.Fits.{told as told-of-match}
 use Rattle.matching.specs.Promise.{Fits}
-use Rattle.matching.specs.Laws.OneOutcome.{told-apart as apart-below-match, told-same as same-below-match}
+use Rattle.matching.specs.Laws.OneOutcome.{told-apart as apart-below-match, told-same as same-below-match, one-room as one-match-room}
 use Rattle.comparing.specs.declared.Comparison.{Comparison as ComparisonBelow}
 use Rattle.comparing.specs.declared.Comparison.the-variants.{Same as SameBelow, Different as DifferentBelow, Refused as RefusedComparison, WordRoomShort as WordRoomShortBelow}
 use Rattle.comparing.specs.Compare.{told as told-of-comparison}
 use Rattle.comparing.specs.Promise.{Compares}
-use Rattle.comparing.specs.Laws.OneOutcome.{told-apart as apart-below-comparison, told-same as same-below-comparison}
+use Rattle.comparing.specs.Laws.OneOutcome.{told-apart as apart-below-comparison, told-same as same-below-comparison, one-work-room, one-pair-room, one-word-room}
 use Rattle.checking.specs.declared.Checked.{Checked as CheckedBelow}
 use Rattle.checking.specs.declared.Checked.the-variants.{Accepted as AcceptedBelow, OpeningMissing as OpeningMissingBelow, MarksDiffer as MarksDifferBelow, NotListed as NotListedBelow, Refused as RefusedCheck}
 use Rattle.checking.specs.Outcome.{told as told-of-checked}
 use Rattle.checking.specs.Promise.{Checks}
-use Rattle.checking.specs.Laws.OneOutcome.{told-apart as apart-below-checked, told-same as same-below-checked}
+use Rattle.checking.specs.Laws.OneOutcome.{told-apart as apart-below-checked, told-same as same-below-checked, one-room as one-checked-room}
 use Rattle.judge.specs.declared.Match.{Match}
 use Rattle.judge.specs.declared.Match.the-variants.{Yes, No, Refused}
 use Rattle.judge.specs.declared.Comparison.{Comparison}
@@ -50,6 +50,10 @@ pub one-match : {card word room room′ : List ℕ} {budget : ℕ} {a b : Match}
     → Fits card word room budget (as-match a) r → Fits card word room′ budget (as-match b) s → a ≡ b
 one-match {a = a} {b} same f g = match-same a b (same-below-match same f g)
 
+pub one-outcome-of-fits : {card word room : List ℕ} {budget : ℕ} {a b : Match} {r s : List ℕ} → Fits card word room budget (as-match a) r
+    → Fits card word room budget (as-match b) s → (a ≡ b) × (r ≡ s)
+one-outcome-of-fits f g = (one-match refl f g, one-match-room f g)
+
 -- `compare`.
 
 comparison-of : ComparisonBelow → Comparison
@@ -75,6 +79,11 @@ pub one-comparison : {left right work work′ pairs pairs′ word word′ : List
     → length work ≡ length work′ → length pairs ≡ length pairs′ → length word ≡ length word′
     → Compares left right work pairs word budget (as-comparison a) w p v → Compares left right work′ pairs′ word′ budget (as-comparison b) x q u → a ≡ b
 one-comparison {a = a} {b} same-work same-pairs same-word f g = comparison-same a b (same-below-comparison same-work same-pairs same-word f g)
+
+pub one-outcome-of-compare : {left right work pairs word : List ℕ} {budget : ℕ} {a b : Comparison} {w x p q v u : List ℕ}
+    → Compares left right work pairs word budget (as-comparison a) w p v → Compares left right work pairs word budget (as-comparison b) x q u
+    → (a ≡ b) × (w ≡ x) × (p ≡ q) × (v ≡ u)
+one-outcome-of-compare f g = (one-comparison refl refl refl f g, one-work-room f g, one-pair-room f g, one-word-room f g)
 
 -- `check`.
 
@@ -102,3 +111,7 @@ checked-apart a b e = checked-same a b (apart-below-checked (as-checked a) (as-c
 pub one-checked : {left right proof list room room′ : List ℕ} {budget : ℕ} {a b : Checked} {r s : List ℕ} → length room ≡ length room′
     → Checks left right proof list room budget (as-checked a) r → Checks left right proof list room′ budget (as-checked b) s → a ≡ b
 one-checked {a = a} {b} same f g = checked-same a b (same-below-checked same f g)
+
+pub one-outcome-of-check : {left right proof list room : List ℕ} {budget : ℕ} {a b : Checked} {r s : List ℕ}
+    → Checks left right proof list room budget (as-checked a) r → Checks left right proof list room budget (as-checked b) s → (a ≡ b) × (r ≡ s)
+one-outcome-of-check f g = (one-checked refl f g, one-checked-room f g)

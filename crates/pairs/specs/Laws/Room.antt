@@ -5,10 +5,11 @@ use native.Mathlib.Omega.{arith}
 use mathlib.Core.List.{List, [], _∷_, _++_, append-assoc}
 use mathlib.Core.Path.{_≡_, refl, sym, _∙_, ap}
 use lib.ListN.{length, take, drop, length-append, length-drop, take-append-drop}
-use lib.Seq.{take-at, drop-drop, drop-append-add}
+use lib.Seq.{take-at}
 use Rattle.language.specs.Word.{none, Bytes}
 use Rattle.language.specs.Laws.Words.{over-join}
 use Rattle.cards.specs.Laws.Record.{bytes-drop}
+use Rattle.store.specs.Laws.Room.{behind-covered}
 use Rattle.pairs.specs.declared.pair.Pair.{Pair}
 use Rattle.pairs.specs.Pair.{bytes-of-pair, first-pairs, run-of-pairs, pair-at}
 use Rattle.pairs.specs.Room.{table-in, laid-pairs, TableStands}
@@ -21,14 +22,8 @@ table-of-laid table room = first-of-pair-run table (drop (8 * length table) room
 -- What a table covers of a room does not matter to it.
 pub laid-laid-pairs : (t u : List Pair) (room : List ℕ) → length t ≤ length u → laid-pairs u (laid-pairs t room) ≡ laid-pairs u room
 laid-laid-pairs t u room l =
-    let more = 8 * length u - 8 * length t in
-    let e : 8 * length u ≡ length (run-of-pairs t) + more = omega (arith, length-pair-run t) in
-    let f : 8 * length t + more ≡ 8 * length u = omega arith in
     ap (λ (s : List ℕ). run-of-pairs u ++ s)
-    (ap (λ (k : ℕ). drop k (laid-pairs t room)) e
-    ∙ drop-append-add (run-of-pairs t) (drop (8 * length t) room) more
-    ∙ drop-drop more (8 * length t) room
-    ∙ ap (λ (k : ℕ). drop k room) f)
+    (behind-covered (run-of-pairs t) room (8 * length t) (8 * length u) (length-pair-run t) (omega arith))
 
 -- A table that the room has space for leaves its length.
 pub length-laid-pairs : (table : List Pair) (room : List ℕ) → 8 * length table ≤ length room → length (laid-pairs table room) ≡ length room

@@ -38,17 +38,18 @@ laid-same n room l b = rw (run-in-room n room l b, length-first n room) (take-ap
 pub store-of-laid : (rs : List Record) (room : List ℕ) → store-in (laid rs room) (length rs) ≡ rs
 store-of-laid rs room = first-of-run rs (drop (8 * length rs) room)
 
+-- What bytes at the start of a room cover of it does not matter behind them.
+pub behind-covered : (bytes room : List ℕ) (n m : ℕ) → length bytes ≡ n → n ≤ m → drop m (bytes ++ drop n room) ≡ drop m room
+behind-covered bytes room n m long l =
+    let e : m ≡ length bytes + (m - n) = omega arith in
+    let f : n + (m - n) ≡ m = omega arith in
+    ap (λ (k : ℕ). drop k (bytes ++ drop n room)) e ∙ drop-append-add bytes (drop n room) (m - n) ∙ drop-drop (m - n) n room
+    ∙ ap (λ (k : ℕ). drop k room) f
+
 -- What a store covers of a room does not matter to it.
 pub laid-laid : (rs qs : List Record) (room : List ℕ) → length rs ≤ length qs → laid qs (laid rs room) ≡ laid qs room
 laid-laid rs qs room l =
-    let more = 8 * length qs - 8 * length rs in
-    let e : 8 * length qs ≡ length (run-of rs) + more = omega (arith, length-run rs) in
-    let f : 8 * length rs + more ≡ 8 * length qs = omega arith in
-    ap (λ (s : List ℕ). run-of qs ++ s)
-    (ap (λ (k : ℕ). drop k (laid rs room)) e
-    ∙ drop-append-add (run-of rs) (drop (8 * length rs) room) more
-    ∙ drop-drop more (8 * length rs) room
-    ∙ ap (λ (k : ℕ). drop k room) f)
+    ap (λ (s : List ℕ). run-of qs ++ s) (behind-covered (run-of rs) room (8 * length rs) (8 * length qs) (length-run rs) (omega arith))
 
 -- A store that the room has places for leaves its length.
 pub length-laid : (rs : List Record) (room : List ℕ) → 8 * length rs ≤ length room → length (laid rs room) ≡ length room
