@@ -3,7 +3,7 @@
 use Prim.Native.Nat.{ℕ, _≤_}
 use mathlib.Core.List.{List}
 use mathlib.Core.Path.{_≡_}
-use lib.ListN.{length, take}
+use lib.ListN.{length, take, drop}
 use Rattle.jobtext.specs.Form.{Job, job-text, WellFormed}
 use Rattle.jobtext.specs.Answer.{answer-text, refused-text}
 
@@ -20,8 +20,9 @@ pub data Answers (text : List ℕ) : List ℕ → Type 0 where
   answered : (j : Job) → WellFormed j → text ≡ job-text j → length text ≤ most-job → Answers text (answer-text j)
   refused-12 : ((j : Job) → WellFormed j → text ≡ job-text j → length text ≤ most-job → ⊥) → Answers text (refused-text 12)
 
--- The answer stands at the start of the room, up to where it ends.
-pub record AnswersIn (text : List ℕ) (to : ℕ) (out : List ℕ) : Type 0 where
+-- The answer stands at the start of the room, up to where it ends; every byte behind it is as lent.
+pub record AnswersIn (text lent : List ℕ) (to : ℕ) (out : List ℕ) : Type 0 where
   pub short : to ≤ most-answer
   pub fits : to ≤ length out
   pub answers : Answers text (take to out)
+  pub rest : drop to out ≡ drop to lent

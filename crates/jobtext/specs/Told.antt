@@ -109,16 +109,18 @@ pub data Reads (text : List ℕ) : CodeJob → List ℕ → List ℕ → Type 0 
 
 -- Writers.
 
--- A piece stands from a place on, up to where it ends, behind what stood there before.
+-- A piece stands from a place on, up to where it ends; what stands before it and behind it is as it was.
 pub record Puts (out : List ℕ) (at : ℕ) (piece : List ℕ) (to : ℕ) (out′ : List ℕ) : Type 0 where
   pub ends : to ≡ at + length piece
   pub stands : take to out′ ≡ take at out ++ piece
+  pub rest : drop to out′ ≡ drop to out
 
--- A whole answer stands at the start of the room, up to where it ends.
-pub record Lays (text : List ℕ) (to : ℕ) (out′ : List ℕ) : Type 0 where
+-- A whole answer stands at the start of the room, up to where it ends; every byte behind it is as lent.
+pub record Lays (lent text : List ℕ) (to : ℕ) (out′ : List ℕ) : Type 0 where
   pub short : to ≤ most-answer
   pub fits : to ≤ length out′
   pub stands : take to out′ ≡ text
+  pub rest : drop to out′ ≡ drop to lent
 
 -- How long what is laid down can be: a number and its line feed, a verdict's line or a side, the last two counts and all three.
 abbrev pub most-number : ℕ

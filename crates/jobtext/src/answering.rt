@@ -13,7 +13,7 @@ ghost use Rattle.jobtext.specs.Told.{Puts, Lays, most-verdict, most-two-
 // A refusal, by its number.
 pub fn lay_refusal(out: &mut [u8], number: u8) -> usize
     requires { ⌜ most-answer ≤ length (now out) ⌝ }
-    ensures { λ to. ⌜ Lays (refused-text number) to (now (out .exit)) ⌝ }
+    ensures { λ to. ⌜ Lays (now (out .entry)) (refused-text number) to (now (out .exit)) ⌝ }
 {
     let at = put(out, 0, b"verdict=refused\n");
     put_number(out, at, b"reason=", number as u64)
@@ -23,7 +23,7 @@ pub fn lay_refusal(out: &mut [u8], number: u8) -> usize
 pub fn lay_match(out: &mut [u8], verdict: &[u8], places: usize, visits: u32) -> usize
     requires { ⌜ most-answer ≤ length (now out) ⌝ }
     requires { ⌜ length (now verdict) ≤ most-verdict ⌝ }
-    ensures { λ to. ⌜ Lays (now (verdict .entry) ++ two-counts places visits) to (now (out .exit)) ⌝ }
+    ensures { λ to. ⌜ Lays (now (out .entry)) (now (verdict .entry) ++ two-counts places visits) to (now (out .exit)) ⌝ }
 {
     let at = put(out, 0, verdict);
     put_two_counts(out, at, places, visits)
@@ -32,7 +32,7 @@ pub fn lay_match(out: &mut [u8], verdict: &[u8], places: usize, visits: u32) -> 
 // "Same", with the three counts.
 pub fn lay_same(out: &mut [u8], pairs: usize, places: usize, visits: u32) -> usize
     requires { ⌜ most-answer ≤ length (now out) ⌝ }
-    ensures { λ to. ⌜ Lays (same-text pairs places visits) to (now (out .exit)) ⌝ }
+    ensures { λ to. ⌜ Lays (now (out .entry)) (same-text pairs places visits) to (now (out .exit)) ⌝ }
 {
     let at = put(out, 0, b"verdict=same\n");
     put_three_counts(out, at, pairs, places, visits)
@@ -50,7 +50,7 @@ pub fn lay_different(
     requires { ⌜ most-answer ≤ length (now out) ⌝ }
     requires { ⌜ length (now word) ≤ lent-word ⌝ }
     requires { ⌜ length (now side) ≤ most-verdict ⌝ }
-    ensures { λ to. ⌜ Lays (different-text (now (word .entry)) (now (side .entry)) pairs places visits) to (now (out .exit)) ⌝ }
+    ensures { λ to. ⌜ Lays (now (out .entry)) (different-text (now (word .entry)) (now (side .entry)) pairs places visits) to (now (out .exit)) ⌝ }
 {
     let verdict = put(out, 0, b"verdict=different\n");
     let worded = put_hex_line(out, verdict, b"word=", word);

@@ -24,7 +24,7 @@ pub const LENT_WORD: usize = 1024;
 // Two cards, compared.
 pub fn compare_job(left: &[u8], right: &[u8], budget: u32, out: &mut [u8]) -> usize
     requires { ⌜ most-answer ≤ length (now out) ⌝ }
-    ensures { λ to. ⌜ Lays (answer-text (compare-job (now (left .entry)) (now (right .entry)) budget)) to (now (out .exit)) ⌝ }
+    ensures { λ to. ⌜ Lays (now (out .entry)) (answer-text (compare-job (now (left .entry)) (now (right .entry)) budget)) to (now (out .exit)) ⌝ }
 {
     let mut work = [0u8; LENT_WORK];
     let mut table = [0u8; LENT_PAIRS];
@@ -47,7 +47,7 @@ pub fn compare_job(left: &[u8], right: &[u8], budget: u32, out: &mut [u8]) -> us
 // A card and a word, matched.
 pub fn match_job(left: &[u8], word: &[u8], budget: u32, out: &mut [u8]) -> usize
     requires { ⌜ most-answer ≤ length (now out) ⌝ }
-    ensures { λ to. ⌜ Lays (answer-text (match-job (now (left .entry)) (now (word .entry)) budget)) to (now (out .exit)) ⌝ }
+    ensures { λ to. ⌜ Lays (now (out .entry)) (answer-text (match-job (now (left .entry)) (now (word .entry)) budget)) to (now (out .exit)) ⌝ }
 {
     let mut work = [0u8; LENT_WORK];
     let answer = fits(left, word, &mut work, budget);

@@ -21,9 +21,9 @@ const MOST_HEX: usize = MOST_JOB / 2;
 // The room that is long enough for every answer, in bytes.
 pub const MOST_ANSWER: usize = 4096;
 
-// How many bytes of the answer stand at the start of the room.
+// How many bytes of the answer stand at the start of the room; those behind them are left as lent.
 pub fn answer(text: &[u8], out: &mut [u8; MOST_ANSWER]) -> usize
-    ensures { λ to. ⌜ AnswersIn (now (text .entry)) to (now (out .exit)) ⌝ }
+    ensures { λ to. ⌜ AnswersIn (now (text .entry)) (now (out .entry)) to (now (out .exit)) ⌝ }
 {
     if MOST_JOB < text.len() {
         return lay_refusal(out, 12);

@@ -47,34 +47,45 @@ nothing-read (reads-match p q w e) f = let z : _≡_ {A = ℕ} 0 1 = cc in absur
 nothing-read (reads-no-job n) f = n
 
 -- The answer to the job read is the answer to the text.
-job-answered : {text left second : List ℕ} {l s : ℕ} (j : Job) {to : ℕ} {out : List ℕ} → JobRead text left second l s j → length text ≤ most-job
-    → Lays (answer-text j) to out → AnswersIn text to out
+job-answered : {text left second : List ℕ} {l s : ℕ} (j : Job) {lent : List ℕ} {to : ℕ} {out : List ℕ} → JobRead text left second l s j
+    → length text ≤ most-job → Lays lent (answer-text j) to out → AnswersIn text lent to out
 job-answered {text} j r m lay =
-    record { short = lay .short; fits = lay .fits; answers = subst (λ (a : List ℕ). Answers text a) (sym (lay .stands)) (answered j (r .well) (r .is) m) }
+    record {
+      short = lay .short;
+      fits = lay .fits;
+      answers = subst (λ (a : List ℕ). Answers text a) (sym (lay .stands)) (answered j (r .well) (r .is) m);
+      rest = lay .rest;
+    }
 
-pub comparison-answered : {text left second : List ℕ} {j : CodeJob} {l s budget to : ℕ} {out : List ℕ} → Reads text j left second
-    → j ≡ Compare l s budget → length text ≤ most-job → Lays (answer-text (compare-job (take (l - 0) left) (take (s - 0) second) budget)) to out
-    → AnswersIn text to out
-comparison-answered {text} {left} {second} {l = l} {s} {budget} {to} {out} r e m lay =
+pub comparison-answered : {text left second : List ℕ} {j : CodeJob} {l s budget : ℕ} {lent : List ℕ} {to : ℕ} {out : List ℕ} → Reads text j left second
+    → j ≡ Compare l s budget → length text ≤ most-job → Lays lent (answer-text (compare-job (take (l - 0) left) (take (s - 0) second) budget)) to out
+    → AnswersIn text lent to out
+comparison-answered {text} {left} {second} {l = l} {s} {budget} {lent} {to} {out} r e m lay =
     job-answered (compare-job (take l left) (take s second) budget) (comparison-read r e) m
-    (subst (λ (k : Job). Lays (answer-text k) to out) (ap₂ (λ (x y : List ℕ). compare-job x y budget) (from-start l left) (from-start s second)) lay)
+    (subst (λ (k : Job). Lays lent (answer-text k) to out) (ap₂ (λ (x y : List ℕ). compare-job x y budget) (from-start l left) (from-start s second)) lay)
 
-pub match-answered : {text left second : List ℕ} {j : CodeJob} {l s budget to : ℕ} {out : List ℕ} → Reads text j left second
-    → j ≡ Match l s budget → length text ≤ most-job → Lays (answer-text (match-job (take (l - 0) left) (take (s - 0) second) budget)) to out
-    → AnswersIn text to out
-match-answered {text} {left} {second} {l = l} {s} {budget} {to} {out} r e m lay =
+pub match-answered : {text left second : List ℕ} {j : CodeJob} {l s budget : ℕ} {lent : List ℕ} {to : ℕ} {out : List ℕ} → Reads text j left second
+    → j ≡ Match l s budget → length text ≤ most-job → Lays lent (answer-text (match-job (take (l - 0) left) (take (s - 0) second) budget)) to out
+    → AnswersIn text lent to out
+match-answered {text} {left} {second} {l = l} {s} {budget} {lent} {to} {out} r e m lay =
     job-answered (match-job (take l left) (take s second) budget) (match-read r e) m
-    (subst (λ (k : Job). Lays (answer-text k) to out) (ap₂ (λ (x y : List ℕ). match-job x y budget) (from-start l left) (from-start s second)) lay)
+    (subst (λ (k : Job). Lays lent (answer-text k) to out) (ap₂ (λ (x y : List ℕ). match-job x y budget) (from-start l left) (from-start s second)) lay)
 
 -- No job is read, or the text is too long to be one.
-none-answered : {text : List ℕ} {to : ℕ} {out : List ℕ} → ((j : Job) → WellFormed j → text ≡ job-text j → length text ≤ most-job → ⊥)
-    → Lays (refused-text 12) to out → AnswersIn text to out
+none-answered : {text lent : List ℕ} {to : ℕ} {out : List ℕ} → ((j : Job) → WellFormed j → text ≡ job-text j → length text ≤ most-job → ⊥)
+    → Lays lent (refused-text 12) to out → AnswersIn text lent to out
 none-answered {text} n lay =
-    record { short = lay .short; fits = lay .fits; answers = subst (λ (a : List ℕ). Answers text a) (sym (lay .stands)) (refused-12 n) }
+    record {
+      short = lay .short;
+      fits = lay .fits;
+      answers = subst (λ (a : List ℕ). Answers text a) (sym (lay .stands)) (refused-12 n);
+      rest = lay .rest;
+    }
 
-pub nothing-answered : {text left second : List ℕ} {j : CodeJob} {to : ℕ} {out : List ℕ} → Reads text j left second → j ≡ Bad
-    → Lays (refused-text 12) to out → AnswersIn text to out
+pub nothing-answered : {text left second : List ℕ} {j : CodeJob} {lent : List ℕ} {to : ℕ} {out : List ℕ} → Reads text j left second → j ≡ Bad
+    → Lays lent (refused-text 12) to out → AnswersIn text lent to out
 nothing-answered r e = none-answered (λ j w f m. nothing-read r e j w f)
 
-pub too-long-answered : {text : List ℕ} {to : ℕ} {out : List ℕ} → most-job < length text → Lays (refused-text 12) to out → AnswersIn text to out
+pub too-long-answered : {text lent : List ℕ} {to : ℕ} {out : List ℕ} → most-job < length text → Lays lent (refused-text 12) to out
+    → AnswersIn text lent to out
 too-long-answered l = none-answered (λ j w f m. omega arith)

@@ -20,11 +20,12 @@ use Rattle.jobtext.specs.Answer.{lent-work, lent-pairs, lent-word, side,
 use Rattle.jobtext.specs.Told.{Lays}
 
 -- A match: the text of what it tells is the job's answer.
-pub match-laid : {left word work : List ℕ} {budget : ℕ} {m : Match} {work′ : List ℕ} {to : ℕ} {out : List ℕ} → Fits left word work budget (as-match m) work′
-    → length work ≡ lent-work → (x : Match) → m ≡ x → Lays (match-text (told-match (as-match x))) to out → Lays (answer-text (match-job left word budget)) to out
+pub match-laid : {left word work : List ℕ} {budget : ℕ} {m : Match} {work′ lent : List ℕ} {to : ℕ} {out : List ℕ}
+    → Fits left word work budget (as-match m) work′ → length work ≡ lent-work → (x : Match) → m ≡ x
+    → Lays lent (match-text (told-match (as-match x))) to out → Lays lent (answer-text (match-job left word budget)) to out
 unfolding answer-text
-match-laid {left} {word} {budget = budget} {m = m} {to = to} {out} f n x e lay =
-    subst (λ (text : List ℕ). Lays text to out)
+match-laid {left} {word} {budget = budget} {m = m} {lent = lent} {to} {out} f n x e lay =
+    subst (λ (text : List ℕ). Lays lent text to out)
     (ap (λ (y : Match). match-text (told-match (as-match y))) (sym e) ∙ ap match-text (f .tells)
     ∙ ap (λ (size : ℕ). match-text (fits-outcome left word size budget .tells)) n)
     lay
@@ -56,13 +57,13 @@ same-outcome left right {work} {pairs} {word} budget l =
     ∙ ap₂ (λ (m n : ℕ). compare-outcome left right lent-work m n budget) (l .pairs-size) (l .word-size)
 
 -- A comparison: the text of what it tells, with the word written, is the job's answer.
-pub comparison-laid : {left right work pairs word : List ℕ} {budget : ℕ} {c : Comparison} {work′ pairs′ word′ : List ℕ} {to : ℕ} {out : List ℕ}
+pub comparison-laid : {left right work pairs word : List ℕ} {budget : ℕ} {c : Comparison} {work′ pairs′ word′ lent : List ℕ} {to : ℕ} {out : List ℕ}
     → Compares left right work pairs word budget (as-comparison c) work′ pairs′ word′ → Lent work pairs word → (x : Comparison) → c ≡ x
-    → Lays (comparison-text (told (as-comparison x)) (outcome-in left right work pairs word budget .written)) to out
-    → Lays (answer-text (compare-job left right budget)) to out
+    → Lays lent (comparison-text (told (as-comparison x)) (outcome-in left right work pairs word budget .written)) to out
+    → Lays lent (answer-text (compare-job left right budget)) to out
 unfolding answer-text
-comparison-laid {left} {right} {work} {pairs} {word} {budget} {c} {to = to} {out} f l x e lay =
-    subst (λ (text : List ℕ). Lays text to out)
+comparison-laid {left} {right} {work} {pairs} {word} {budget} {c} {lent = lent} {to} {out} f l x e lay =
+    subst (λ (text : List ℕ). Lays lent text to out)
     (ap (λ (y : Comparison). comparison-text (told (as-comparison y)) (outcome-in left right work pairs word budget .written)) (sym e)
     ∙ ap (λ (t : Told). comparison-text t (outcome-in left right work pairs word budget .written)) (f .leaves .tells)
     ∙ ap (λ (o : Outcome). comparison-text (o .tells) (o .written)) (same-outcome left right budget l))
@@ -112,11 +113,12 @@ word-short {n} {word′} w =
     let m = w .short in
     omega (arith, length-take-le n word′ l, ap (λ (x : List ℕ). length x) (from-start n word′))
 
-pub different-laid : {left right work pairs word : List ℕ} {budget : ℕ} {c : Comparison} {work′ pairs′ word′ : List ℕ} {to : ℕ} {out : List ℕ} {n : ℕ}
+pub different-laid : {left right work pairs word : List ℕ} {budget : ℕ} {c : Comparison} {work′ pairs′ word′ lent : List ℕ} {to : ℕ} {out : List ℕ} {n : ℕ}
     {h : Bool} {p pl v : ℕ} → Compares left right work pairs word budget (as-comparison c) work′ pairs′ word′ → Lent work pairs word → c ≡ Different n h p pl v
-    → (s : List ℕ) → side h ≡ s → Lays (different-text (take (n - 0) word′) s p pl v) to out → Lays (answer-text (compare-job left right budget)) to out
-different-laid {left} {right} {work} {pairs} {word} {budget} {word′ = word′} {to} {out} {n} {h} {p} {pl} {v} f l e s g lay =
+    → (s : List ℕ) → side h ≡ s → Lays lent (different-text (take (n - 0) word′) s p pl v) to out
+    → Lays lent (answer-text (compare-job left right budget)) to out
+different-laid {left} {right} {work} {pairs} {word} {budget} {word′ = word′} {lent} {to} {out} {n} {h} {p} {pl} {v} f l e s g lay =
     comparison-laid f l (Different n h p pl v) e
-    (subst (λ (text : List ℕ). Lays text to out)
+    (subst (λ (text : List ℕ). Lays lent text to out)
     (ap₂ (λ (x y : List ℕ). different-text x y p pl v) (from-start n word′ ∙ word-stands f l e .stands) (sym g))
     lay)

@@ -1,12 +1,12 @@
--- Writers at work: what stands in the room up to a place, piece behind piece.
-use Prim.Native.Nat.{ℕ, _+_, _*_, _^_, _/_, _%_, _<_, _≤_}
+-- Writers at work: what stands in the room up to a place, piece behind piece, and what is left as it was behind that.
+use Prim.Native.Nat.{ℕ, _+_, _*_, _^_, _-_, _/_, _%_, _<_, _≤_}
 use native.Mathlib.Nat.{le-trans}
 use native.Mathlib.Numerals.{add-one}
 use native.Mathlib.Omega.{arith}
 use mathlib.Core.List.{List, [], _∷_, _++_, append-assoc, append-nil}
 use mathlib.Core.Path.{_≡_, refl, sym, _∙_, ap, ap₂, subst}
-use lib.ListN.{length, getD, take, set, length-append, length-set}
-use lib.Seq.{take-suc, take-all, take-suc-set}
+use lib.ListN.{length, getD, take, drop, set, length-append, length-set}
+use lib.Seq.{take-suc, take-all, take-suc-set, drop-set-lt, drop-drop}
 use Rattle.jobtext.specs.Ascii.{line-feed, line}
 use Rattle.jobtext.specs.Digits.{hex-digit, hex, decimal-digit, decimal}
 use Rattle.jobtext.specs.Promise.{most-answer}
@@ -21,16 +21,30 @@ store-next out at c l = rw add-one (take-suc-set out at c l)
 first-more : (s : List ℕ) (i : ℕ) → i < length s → take (i + 1) s ≡ take i s ++ getD s i 0 ∷ []
 first-more s i l = rw add-one (take-suc s i 0 l)
 
+-- What is the same from a place on is the same from every later place on, whatever is stored before that.
+same-later : (m n : ℕ) (s t : List ℕ) → m ≤ n → drop m s ≡ drop m t → drop n s ≡ drop n t
+same-later m n s t l e =
+    let z : m + (n - m) ≡ n = omega arith in
+    ap (λ (k : ℕ). drop k s) (sym z)
+    ∙ sym (drop-drop (n - m) m s)
+    ∙ ap (λ (r : List ℕ). drop (n - m) r) e
+    ∙ drop-drop (n - m) m t
+    ∙ ap (λ (k : ℕ). drop k t) z
+
+same-behind : (m n : ℕ) (s t : List ℕ) (i c : ℕ) → i < n → m ≤ n → drop m s ≡ drop m t → drop n (set s i c) ≡ drop n t
+same-behind m n s t i c h l e = drop-set-lt n s i c h ∙ same-later m n s t l e
+
 -- A piece of text: its first i numbers stand in the room.
 pub record Putting (out₀ : List ℕ) (at : ℕ) (piece out : List ℕ) (i : ℕ) : Type 0 where
   pub inside : i ≤ length piece
   pub as-long : length out ≡ length out₀
   pub stands : take (at + i) out ≡ take at out₀ ++ take i piece
+  pub rest : drop (at + i) out ≡ drop (at + i) out₀
 
 pub none-put : (out : List ℕ) (at : ℕ) (piece : List ℕ) → Putting out at piece out 0
 none-put out at piece =
     let z : at + 0 ≡ at = omega arith in
-    record { inside = omega arith; as-long = refl; stands = ap (λ (n : ℕ). take n out) z ∙ sym (append-nil (take at out)) }
+    record { inside = omega arith; as-long = refl; stands = ap (λ (n : ℕ). take n out) z ∙ sym (append-nil (take at out)); rest = refl }
 
 pub one-put : {out₀ : List ℕ} {at : ℕ} {piece out : List ℕ} {i : ℕ} → Putting out₀ at piece out i → at + length piece ≤ length out₀ → i < length piece
     → Putting out₀ at piece (set out (at + i) (getD piece i 0)) (i + 1)
@@ -46,6 +60,7 @@ one-put {out₀} {at} {piece} {out} {i} p room l =
           ∙ ap (λ (s : List ℕ). s ++ c ∷ []) (p .stands)
           ∙ append-assoc (take at out₀) (take i piece) (c ∷ [])
           ∙ ap (λ (s : List ℕ). take at out₀ ++ s) (sym (first-more piece i l));
+      rest = same-behind (at + i) (at + (i + 1)) out out₀ (at + i) c (omega arith) (omega arith) (p .rest);
     }
 
 pub all-put : {out₀ : List ℕ} {at : ℕ} {piece out : List ℕ} {i : ℕ} → Putting out₀ at piece out i → length piece ≤ i
@@ -56,6 +71,7 @@ all-put {out₀} {at} {piece} {out} {i} p l =
     record {
       ends = refl;
       stands = ap (λ (n : ℕ). take n out) z ∙ p .stands ∙ ap (λ (s : List ℕ). take at out₀ ++ s) (take-all i piece l);
+      rest = same-later (at + i) (at + length piece) out out₀ (omega arith) (p .rest);
     }
 
 -- Bytes in hex: the digits of the first i stand in the room.
@@ -64,10 +80,11 @@ pub record PuttingHex (out₀ : List ℕ) (at : ℕ) (bytes out : List ℕ) (to 
   pub inside : i ≤ length bytes
   pub as-long : length out ≡ length out₀
   pub stands : take to out ≡ take at out₀ ++ hex (take i bytes)
+  pub rest : drop to out ≡ drop to out₀
 
 pub no-hex-put : (out : List ℕ) (at : ℕ) (bytes : List ℕ) → PuttingHex out at bytes out at 0
 unfolding hex
-no-hex-put out at bytes = record { to-is = omega arith; inside = omega arith; as-long = refl; stands = sym (append-nil (take at out)) }
+no-hex-put out at bytes = record { to-is = omega arith; inside = omega arith; as-long = refl; stands = sym (append-nil (take at out)); rest = refl }
 
 pub one-hex-put : {out₀ : List ℕ} {at : ℕ} {bytes out : List ℕ} {to i high low : ℕ} → PuttingHex out₀ at bytes out to i
     → at + 2 * length bytes ≤ length out₀ → i < length bytes → high ≡ hex-digit (getD bytes i 0 / 16) → low ≡ hex-digit (getD bytes i 0 % 16)
@@ -90,6 +107,8 @@ one-hex-put {out₀} {at} {bytes} {out} {to} {i} {high} {low} p room l e f =
           ∙ append-assoc (take at out₀) (hex (take i bytes)) (high ∷ low ∷ [])
           ∙ ap₂ (λ (x y : ℕ). take at out₀ ++ (hex (take i bytes) ++ x ∷ y ∷ [])) e f
           ∙ ap (λ (s : List ℕ). take at out₀ ++ s) (sym (ap hex (first-more bytes i l) ∙ hex-append (take i bytes) (b ∷ [])));
+      rest = drop-set-lt (to + 2) (set out to high) (to + 1) low (omega arith)
+          ∙ same-behind to (to + 2) out out₀ to high (omega arith) (omega arith) (p .rest);
     }
 
 pub all-hex-put : {out₀ : List ℕ} {at : ℕ} {bytes out : List ℕ} {to i : ℕ} → PuttingHex out₀ at bytes out to i → length bytes ≤ i
@@ -100,11 +119,12 @@ all-hex-put {out₀} {at} {bytes} {out} {to} {i} p l =
     record {
       ends = omega (arith, length-hex bytes);
       stands = p .stands ∙ ap (λ (s : List ℕ). take at out₀ ++ hex s) (take-all i bytes l);
+      rest = p .rest;
     }
 
 -- Nothing is put; one number behind what is put; one piece behind the other.
 pub put-nothing : (out : List ℕ) (at : ℕ) → Puts out at [] at out
-put-nothing out at = record { ends = omega arith; stands = sym (append-nil (take at out)) }
+put-nothing out at = record { ends = omega arith; stands = sym (append-nil (take at out)); rest = refl }
 
 pub put-next : {out : List ℕ} {at : ℕ} {piece : List ℕ} {to : ℕ} {out′ : List ℕ} → Puts out at piece to out′ → (c : ℕ) → to < length out′
     → Puts out at (piece ++ c ∷ []) (to + 1) (set out′ to c)
@@ -113,16 +133,18 @@ put-next {out} {at} {piece} {to} {out′} p c l =
     record {
       ends = omega (arith, length-append piece (c ∷ []));
       stands = store-next out′ to c l ∙ ap (λ (s : List ℕ). s ++ c ∷ []) (p .stands) ∙ append-assoc (take at out) piece (c ∷ []);
+      rest = same-behind to (to + 1) out′ out to c (omega arith) (omega arith) (p .rest);
     }
 
 pub put-both : {out : List ℕ} {at : ℕ} {first : List ℕ} {to : ℕ} {out′ second : List ℕ} {to′ : ℕ} {out″ : List ℕ} → Puts out at first to out′
     → Puts out′ to second to′ out″ → Puts out at (first ++ second) to′ out″
-put-both {out} {at} {first} {to} {out′} {second} p q =
+put-both {out} {at} {first} {to} {out′} {second} {to′} p q =
     let e = p .ends in
     let f = q .ends in
     record {
       ends = omega (arith, length-append first second);
       stands = q .stands ∙ ap (λ (s : List ℕ). s ++ second) (p .stands) ∙ append-assoc (take at out) first second;
+      rest = q .rest ∙ same-later to to′ out′ out (omega arith) (p .rest);
     }
 
 -- A number of one digit, and of more.
@@ -157,5 +179,6 @@ pub hex-line-length : (name bytes : List ℕ) → length (line name (hex bytes))
 hex-line-length name bytes = omega (arith, line-length name (hex bytes), length-hex bytes)
 
 -- A text that is put from the start.
-pub lays : {out : List ℕ} {text : List ℕ} {to : ℕ} {out′ : List ℕ} → Puts out 0 text to out′ → to ≤ most-answer → most-answer ≤ length out′ → Lays text to out′
-lays p l m = record { short = l; fits = le-trans l m; stands = p .stands }
+pub lays : {out : List ℕ} {text : List ℕ} {to : ℕ} {out′ : List ℕ} → Puts out 0 text to out′ → to ≤ most-answer → most-answer ≤ length out′
+    → Lays out text to out′
+lays p l m = record { short = l; fits = le-trans l m; stands = p .stands; rest = p .rest }
