@@ -4,6 +4,7 @@
 use crate::cards::{self, Refusal, PATTERN_RECORDS, PROOF_RECORDS};
 use crate::checker::{checking, Failing};
 use crate::derivative::Work;
+use crate::lookups::CallLookups;
 use crate::search::{comparing, Found, Side, Table};
 
 /// A call. Of the lent rooms the twin needs the sizes only: what a lent room held before the call
@@ -50,6 +51,8 @@ pub struct Told {
     pub work: Vec<u8>,
     /// The pair table; a comparison alone has one.
     pub table: Option<Vec<u8>>,
+    /// What finding took: not told by a call, but counted.
+    pub lookups: CallLookups,
 }
 
 /// Judges a call.
@@ -133,10 +136,19 @@ fn judge_check(call: &Call, left: &[u8], right: &[u8], proof: &[u8], list: &[u8]
 
 /// Numbers 1 to 6 and 11 leave all rooms untouched and report zero places, pairs and visits.
 fn untouched(refusal: Refusal, table: Option<Vec<u8>>) -> Told {
-    Told { answer: Answer::Refused(refusal), places: 0, visits: 0, work: vec![], table }
+    Told {
+        answer: Answer::Refused(refusal),
+        places: 0,
+        visits: 0,
+        work: vec![],
+        table,
+        lookups: CallLookups::default(),
+    }
 }
 
 /// Every other outcome tells the counts, and what was placed by then stands.
 fn told(answer: Answer, work: &Work, table: Option<Vec<u8>>) -> Told {
-    Told { answer, places: work.store.places(), visits: work.visits, work: work.store.bytes(), table }
+    let store = &work.store;
+    let (places, lookups) = (store.places(), store.lookups);
+    Told { answer, places, visits: work.visits, work: store.bytes(), table, lookups }
 }

@@ -2,18 +2,20 @@
 
 use std::io::{self, BufRead, BufWriter, Write};
 use std::process::ExitCode;
-use twin::{lines, make, on_large_stack, small};
+use twin::{lines, make, on_large_stack, race, small};
 
 const USAGE: &str = "\
 twin                            read calls, a line each, and write what each tells
 twin make SEED COUNT [FIRST]    write COUNT random calls of a seed, from number FIRST (or 0) on
-twin all-small [COUNT [FIRST]]  write the calls about all small patterns and words, or a part of them";
+twin all-small [COUNT [FIRST]]  write the calls about all small patterns and words, or a part of them
+twin race BEFORE AFTER          time two programs, in turn, on the long comparisons";
 
 /// What the arguments ask for.
 enum Wanted {
     Answers,
     Random { seed: u64, count: u64, first: u64 },
     Small { count: usize, first: usize },
+    Race { before: String, after: String },
 }
 
 fn main() -> ExitCode {
@@ -46,6 +48,7 @@ fn read_arguments(arguments: &[String]) -> Option<Wanted> {
         ["all-small", count, first] => {
             Some(Wanted::Small { count: number(count)? as usize, first: number(first)? as usize })
         }
+        ["race", before, after] => Some(Wanted::Race { before: before.to_string(), after: after.to_string() }),
         _ => None,
     }
 }
@@ -70,6 +73,7 @@ fn run(wanted: Wanted) -> io::Result<()> {
                 writeln!(output, "{line}")?;
             }
         }
+        Wanted::Race { before, after } => race::run(&before, &after, &mut output)?,
     }
     output.flush()
 }

@@ -4,6 +4,7 @@
 //! writes into its work room: every call begins a fresh one, and records only ever join it.
 
 use crate::cards::Refusal;
+use crate::lookups::CallLookups;
 use std::collections::HashMap;
 
 /// The number of a record in a card, or of its place in the store.
@@ -83,14 +84,22 @@ pub struct Store {
     marks: Vec<bool>,
     found: HashMap<Record, Place>,
     room: usize,
+    /// What finding took so far.
+    pub lookups: CallLookups,
 }
 
 impl Store {
     /// A fresh store in a work room of so many bytes: place 0 is nothing, place 1 the empty word.
     pub fn fresh(work: usize) -> Store {
-        let mut store = Store { records: vec![], marks: vec![], found: HashMap::new(), room: work / RECORD_BYTES };
+        let mut store = Store {
+            records: vec![],
+            marks: vec![],
+            found: HashMap::new(),
+            room: work / RECORD_BYTES,
+            lookups: CallLookups::default(),
+        };
         for first in [Record::Nothing, Record::EmptyWord] {
-            store.use_or_place(first).expect("a work room has 16 bytes or more");
+            store.place(first).expect("a work room has 16 bytes or more");
         }
         store
     }
@@ -111,9 +120,16 @@ impl Store {
 
     /// The place of the identical record, or the first free place, or number 7.
     fn use_or_place(&mut self, record: Record) -> Result<Place, Refusal> {
-        if let Some(&place) = self.found.get(&record) {
-            return Ok(place);
+        let found = self.found.get(&record).copied();
+        self.lookups.count(record, self.records.len(), found.map(usize::from));
+        match found {
+            Some(place) => Ok(place),
+            None => self.place(record),
         }
+    }
+
+    /// Places a new record at the first free place, or number 7.
+    fn place(&mut self, record: Record) -> Result<Place, Refusal> {
         if self.records.len() >= self.room {
             return Err(Refusal::NoFreePlace);
         }

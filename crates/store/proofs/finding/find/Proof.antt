@@ -1,10 +1,11 @@
 -- `find` compares records by their numbers, which tell records apart: no record passed has the number wanted, so what the definition
--- says of the whole store is what it says of the records from `at` on. The measure is the number of records that are left.
+-- says of the whole store is what it says of the records from `at` on. The records below the place where looking begins are passed at once: the
+-- store is good, so each obeys the kind table at its place, which the record wanted would not. The measure is the number of records that are left.
 use Prim.Native.Nat.{ℕ, zero, suc, _*_, _-_, _<_, _≤_}
 use native.Mathlib.Omega.{arith}
 use mathlib.Core.Bool.{Bool, true, false, _&&_, false≢true}
 use mathlib.Core.List.{List, _∷_}
-use mathlib.Core.Path.{_≡_, refl, sym, _∙_, ap}
+use mathlib.Core.Path.{_≡_, refl, sym, _∙_, ap, subst}
 use lib.Dec.{eqb}
 use lib.ListN.{length, drop, drop-of-length-le}
 use lib.Seq.{drop-cons}
@@ -14,6 +15,7 @@ use borrow.Author.Tests.{eqb-true, eq-eqb}
 use Rattle.language.specs.Word.{Bytes}
 use Rattle.cards.specs.declared.record.Record.{Record}
 use Rattle.cards.specs.Record.{record-at, number-of, no-record}
+use Rattle.cards.specs.Standing.{Obeys}
 use Rattle.cards.specs.Laws.Record.{Fitting, number-one, fitting-of, bytes-drop, length-first}
 use Rattle.store.specs.declared.finding.Found.the-variants.{At, Absent}
 use Rattle.store.specs.Room.{store-in}
@@ -112,7 +114,7 @@ module _ (room : List ℕ) (places : ℕ) (r : Record) where
   told-absent n = sym (passed places (omega arith) n ∙ at-last)
 
 abbrev Inv-loop : tie.InvT-loop
-Inv-loop room places wanted at₀ at = (at ≤ places) × ((k : ℕ) → k < at → number-of (record-at room k) ≡ wanted → ⊥)
+Inv-loop room places wanted at₀ at = (k : ℕ) → k < at → k < places → number-of (record-at room k) ≡ wanted → ⊥
 
 abbrev μ-loop : tie.MeasureT-loop
 μ-loop room places wanted at₀ at = places - at
@@ -120,20 +122,31 @@ abbrev μ-loop : tie.MeasureT-loop
 number-requires : tie.Need-number-requires Inv-loop μ-loop
 number-requires c κs = search needs
 
+above-children-requires : tie.Need-above-children-requires Inv-loop μ-loop
+above-children-requires c κs = search needs
+
 loop-holds : tie.Need-loop-holds Inv-loop μ-loop
-loop-holds c = (omega arith, λ k l. absurd (omega arith))
+loop-holds c k l m e =
+    let a = c .before .before .before .args in
+    let g = c .before .before .before .pre in
+    let is = number-one (record-at (a .room .now) k) (a .r) (fitting-of (bytes-drop (8 * k) (g .bytes)))
+    (record { kind = omega arith; letter = omega arith; mark = omega arith; fourth = omega arith; left = omega arith; right = omega arith })
+    (e ∙ c .before .number .ensures) in
+    c .above-children .ensures k l
+    (subst (Obeys k) (child-in-room (a .places) (a .room .now) k m ∙ is)
+    (g .good .obeys k (omega (arith, length-first (a .places) (a .room .now)))))
 
 number-at-requires : tie.Need-number-at-requires Inv-loop μ-loop
 number-at-requires c κs = omega arith
 
 returns : tie.Need-returns Inv-loop μ-loop
 returns c =
-    let a = c .before .before .before .before .before .before .args in
+    let a = c .before .before .before .before .before .before .before .args in
     let l = c .before .before .before .loop in
-    let is = c .before .before .before .before .number .ensures in
-    told-at (a .room .now) (a .places) (a .r) (c .before .before .before .before .before .before .pre .bytes)
+    let is = c .before .before .before .before .before .number .ensures in
+    told-at (a .room .now) (a .places) (a .r) (c .before .before .before .before .before .before .before .pre .bytes)
     (record { kind = omega arith; letter = omega arith; mark = omega arith; fourth = omega arith; left = omega arith; right = omega arith })
-    (l .at) (omega arith) (λ k m e. l .inv .1 k m (e ∙ sym is))
+    (l .at) (omega arith) (λ k m e. l .inv k m (omega arith) (e ∙ sym is))
     (sym (c .before .number-at .ensures) ∙ c .if1 .taken ∙ is)
 
 add-at : tie.Need-add-at Inv-loop μ-loop
@@ -145,14 +158,14 @@ loop-less c = omega arith
 loop-again : tie.Need-loop-again Inv-loop μ-loop
 loop-again c =
     let l = c .before .before .before .loop in
-    (omega arith, below-more _ (l .at) (l .inv .1) (λ e. c .if1 .left (c .before .number-at .ensures ∙ e)))
+    below-more _ (l .at) (l .inv) (λ m e. c .if1 .left (c .before .number-at .ensures ∙ e))
 
 returns-2 : tie.Need-returns-2 Inv-loop μ-loop
 returns-2 c =
-    let a = c .before .before .before .before .args in
+    let a = c .before .before .before .before .before .args in
     let l = c .before .loop in
     told-absent (a .room .now) (a .places) (a .r)
-    (λ k m e. l .inv .1 k (omega arith) (e ∙ sym (c .before .before .number .ensures)))
+    (λ k m e. l .inv k (omega arith) m (e ∙ sym (c .before .before .before .number .ensures)))
 
 pub find-spec : {M : Type 1} → statement M
 find-spec =
@@ -161,6 +174,7 @@ find-spec =
     Inv-loop
     μ-loop
     number-requires
+    above-children-requires
     loop-holds
     number-at-requires
     returns
