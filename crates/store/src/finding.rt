@@ -5,7 +5,7 @@ use cards::record::Record;
 use cards::record::number;
 use cards::record::number_at;
 ghost use mathlib.Core.Path.{_≡_};
-ghost use Prim.Native.Nat.{ℕ, _<_};
+ghost use Prim.Native.Nat.{ℕ, _<_, _≤_};
 ghost use Rattle.cards.specs.Standing.{Obeys};
 ghost use Rattle.store.specs.Room.{store-in};
 ghost use Rattle.store.specs.Making.{find};
@@ -32,9 +32,9 @@ pub fn find(room: &[u8], places: usize, r: Record) -> Found
     Found::Absent
 }
 
-// The first place that can hold the record: a choice, a sequence or a repeat stands above its children.
+// The first place that can hold the record, where any can: a choice, a sequence or a repeat stands above its children.
 fn above_children(r: Record) -> usize
-    ensures { λ n. ⌜ ((k : ℕ) → k < n → Obeys k r → ⊥) ⌝ }
+    ensures { λ n. ⌜ ((k : ℕ) → Obeys k r → (n ≤ k) × Obeys n r) ⌝ }
 {
     match named(r.kind) {
         Kind::Choice => above_both(r.left, r.right),
@@ -44,9 +44,9 @@ fn above_children(r: Record) -> usize
     }
 }
 
-// The place above two places.
+// The first place above two places.
 fn above_both(left: u16, right: u16) -> usize
-    ensures { λ n. ⌜ ((k : ℕ) → k < n → left < k → right < k → ⊥) ⌝ }
+    ensures { λ n. ⌜ (left < n) × (right < n) × ((k : ℕ) → left < k → right < k → n ≤ k) ⌝ }
 {
     if left < right {
         right as usize + 1

@@ -132,9 +132,9 @@ loop-holds c k l m e =
     let is = number-one (record-at (a .room .now) k) (a .r) (fitting-of (bytes-drop (8 * k) (g .bytes)))
     (record { kind = omega arith; letter = omega arith; mark = omega arith; fourth = omega arith; left = omega arith; right = omega arith })
     (e ∙ c .before .number .ensures) in
-    c .above-children .ensures k l
-    (subst (Obeys k) (child-in-room (a .places) (a .room .now) k m ∙ is)
-    (g .good .obeys k (omega (arith, length-first (a .places) (a .room .now)))))
+    let o = subst (Obeys k) (child-in-room (a .places) (a .room .now) k m ∙ is)
+    (g .good .obeys k (omega (arith, length-first (a .places) (a .room .now)))) in
+    omega (arith, c .above-children .ensures k o .0)
 
 number-at-requires : tie.Need-number-at-requires Inv-loop μ-loop
 number-at-requires c κs = omega arith
