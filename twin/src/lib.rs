@@ -3,13 +3,14 @@
 //!
 //! `records`, `derivative`, `search`, `checker`, `cards` and `calls` are the rules; `lines` reads
 //! and writes the line form; `make` is the generator of random calls, and `small` lists the calls
-//! about all small patterns and words. `lookups` counts the records that finding compares, and `race`
-//! times two programs on the comparisons of `long`.
+//! about all small patterns and words. `larger` tells what pairs that grow come to. `lookups` counts the
+//! records that finding compares, and `race` times two programs on the comparisons of `long`.
 
 pub mod calls;
 pub mod cards;
 pub mod checker;
 pub mod derivative;
+pub mod larger;
 pub mod lines;
 pub mod long;
 pub mod lookups;

@@ -3,7 +3,8 @@
 
 use crate::calls::{Asked, Call};
 use crate::make::layout::shared_card;
-use crate::make::patterns::{any_of, choice, empty_word, letter, repeat, sequence, times, times_backwards, Pattern};
+use crate::make::patterns::{any_of, choice, empty_word, grouped_left, grouped_right};
+use crate::make::patterns::{letter, repeat, sequence, times, times_backwards, Pattern};
 use crate::records::card_bytes;
 use std::rc::Rc;
 
@@ -16,7 +17,7 @@ pub struct Long {
 /// The long comparisons.
 pub fn calls() -> Vec<Long> {
     let (a, b, steps) = (letter(b'a'), letter(b'b'), || (0..80).map(letter));
-    let optional = |step: fn(Rc<Pattern>) -> Rc<Pattern>| grouped_left((0..60).map(letter).map(step));
+    let optional = |step: fn(Rc<Pattern>) -> Rc<Pattern>| grouped_left((0..62).map(letter).map(step));
     let ninth_from_end =
         |before: &Rc<Pattern>| (0..8).fold(sequence(before, &a), |all, _| sequence(&all, &any_of(b"ab")));
     vec![
@@ -28,21 +29,11 @@ pub fn calls() -> Vec<Long> {
         ),
         long("`(s1·..·s80)*`, grouped left and right", repeat(&grouped_left(steps())), repeat(&grouped_right(steps()))),
         long(
-            "`(s1+1)·..·(s60+1)` and `(1+s1)·..·(1+s60)`",
+            "`(s1+1)·..·(s62+1)` and `(1+s1)·..·(1+s62)`",
             optional(|step| choice(&step, &empty_word())),
             optional(|step| choice(&empty_word(), &step)),
         ),
     ]
-}
-
-/// The sequence of one or more parts, grouped to the left.
-fn grouped_left(parts: impl Iterator<Item = Rc<Pattern>>) -> Rc<Pattern> {
-    parts.reduce(|all, part| sequence(&all, &part)).expect("there is a part")
-}
-
-/// The sequence of one or more parts, grouped to the right.
-fn grouped_right(parts: impl DoubleEndedIterator<Item = Rc<Pattern>>) -> Rc<Pattern> {
-    parts.rev().reduce(|all, part| sequence(&part, &all)).expect("there is a part")
 }
 
 /// The comparison of two patterns, each part of which is one record.

@@ -2,7 +2,8 @@
 //!
 //! Finding compares the record wanted with the records of the store, one after the other, up to the
 //! identical one or the last. It can begin at place 0, or just above the record's children, since a
-//! record stands after both of them (document 02, P2).
+//! record stands after both of them (document 02, P2). Of a set every choice counts as looked for
+//! (document 02, P3); a judge that knows that the rest of a set stands already need not look for it.
 
 use crate::records::Record;
 

@@ -2,12 +2,13 @@
 
 use std::io::{self, BufRead, BufWriter, Write};
 use std::process::ExitCode;
-use twin::{lines, make, on_large_stack, race, small};
+use twin::{larger, lines, make, on_large_stack, race, small};
 
 const USAGE: &str = "\
 twin                            read calls, a line each, and write what each tells
 twin make SEED COUNT [FIRST]    write COUNT random calls of a seed, from number FIRST (or 0) on
 twin all-small [COUNT [FIRST]]  write the calls about all small patterns and words, or a part of them
+twin larger [calls]             write what the larger pairs come to, as a table, or their calls
 twin race BEFORE AFTER          time two programs, in turn, on the long comparisons";
 
 /// What the arguments ask for.
@@ -15,6 +16,8 @@ enum Wanted {
     Answers,
     Random { seed: u64, count: u64, first: u64 },
     Small { count: usize, first: usize },
+    Larger,
+    LargerCalls,
     Race { before: String, after: String },
 }
 
@@ -48,6 +51,8 @@ fn read_arguments(arguments: &[String]) -> Option<Wanted> {
         ["all-small", count, first] => {
             Some(Wanted::Small { count: number(count)? as usize, first: number(first)? as usize })
         }
+        ["larger"] => Some(Wanted::Larger),
+        ["larger", "calls"] => Some(Wanted::LargerCalls),
         ["race", before, after] => Some(Wanted::Race { before: before.to_string(), after: after.to_string() }),
         _ => None,
     }
@@ -73,6 +78,8 @@ fn run(wanted: Wanted) -> io::Result<()> {
                 writeln!(output, "{line}")?;
             }
         }
+        Wanted::Larger => larger::write_table(&mut output)?,
+        Wanted::LargerCalls => larger::write_calls(&mut output)?,
         Wanted::Race { before, after } => race::run(&before, &after, &mut output)?,
     }
     output.flush()

@@ -1,7 +1,9 @@
 //! Records, the store and its making rules.
 //!
 //! A record is one of the six kinds of document 01. The store is the run of records that a call
-//! writes into its work room: every call begins a fresh one, and records only ever join it.
+//! writes into its work room: every call begins a fresh one, and records only ever join it. In it a
+//! choice is a set (document 02, P3): its left child is no choice, its members down the right side have
+//! strictly rising places, and nothing is no member.
 
 use crate::cards::Refusal;
 use crate::lookups::CallLookups;
@@ -104,18 +106,45 @@ impl Store {
         store
     }
 
-    /// Makes a record: the rules for choice and sequence first, then the identical record already
-    /// in the store, failing that a new one.
+    /// Makes a record: a choice is a set, and a sequence has its rules; otherwise the identical record
+    /// already in the store is used, failing that a new one.
     pub fn make(&mut self, record: Record) -> Result<Place, Refusal> {
         match record {
-            Record::Choice(NOTHING, right) => Ok(right),
-            Record::Choice(left, NOTHING) => Ok(left),
-            Record::Choice(left, right) if left == right => Ok(left),
+            Record::Choice(left, right) => self.make_set([self.members(left), self.members(right)].concat()),
             Record::Sequence(NOTHING, _) | Record::Sequence(_, NOTHING) => Ok(NOTHING),
             Record::Sequence(EMPTY_WORD, right) => Ok(right),
             Record::Sequence(left, EMPTY_WORD) => Ok(left),
             other => self.use_or_place(other),
         }
+    }
+
+    /// The members of a place: a choice has its left child and the members of its right child, nothing
+    /// has none, and any other place is its own only member.
+    fn members(&self, place: Place) -> Vec<Place> {
+        let mut members = vec![];
+        let mut rest = place;
+        while let Record::Choice(left, right) = self.record(rest) {
+            members.push(left);
+            rest = right;
+        }
+        if rest != NOTHING {
+            members.push(rest);
+        }
+        members
+    }
+
+    /// Makes the choice of some members: by rising place, each once, built from the last member
+    /// backward. No member gives nothing, one gives itself. At number 7 what was placed by then stands.
+    fn make_set(&mut self, mut members: Vec<Place>) -> Result<Place, Refusal> {
+        members.sort();
+        members.dedup();
+        let Some(mut set) = members.pop() else {
+            return Ok(NOTHING);
+        };
+        for member in members.into_iter().rev() {
+            set = self.use_or_place(Record::Choice(member, set))?;
+        }
+        Ok(set)
     }
 
     /// The place of the identical record, or the first free place, or number 7.

@@ -45,8 +45,8 @@ fn matching_is_belonging() {
 }
 
 /// Every 97th pair of patterns of up to five records: "different" has the shortest word in exactly
-/// one language, lowest in byte order, and "same" has none of up to six letters. Few searches need
-/// more than they are lent.
+/// one language, lowest in byte order, and "same" has none of up to six letters. No search needs more
+/// than it is lent.
 #[test]
 fn comparing_finds_the_first_word() {
     let calls = SmallCalls::list();
@@ -57,15 +57,8 @@ fn comparing_finds_the_first_word() {
             _ => panic!("a match"),
         };
     let words: Vec<Vec<u8>> = (0..words).map(word_of).collect();
-    let (mut judged, mut refused) = (0, 0);
     for number in (0..paired * paired).step_by(97) {
         let call = read_call(calls.line(number).unwrap().as_bytes()).unwrap();
-        let answer = judge(&call).answer;
-        if let Answer::Refused(_) = answer {
-            refused += 1;
-            continue;
-        }
-        judged += 1;
         let Asked::Compare { left, right, .. } = &call.asked else { panic!("a comparison") };
         let (left, right) = (records(left), records(right));
         let in_left = |word: &[u8]| belongs(&left, left.len() as u16 - 1, word);
@@ -78,9 +71,8 @@ fn comparing_finds_the_first_word() {
                 Answer::Different { word: word.clone(), only }
             }
         };
-        assert_eq!(answer, expected, "call {number}");
+        assert_eq!(judge(&call).answer, expected, "call {number}");
     }
-    assert!(refused * 1_000 < judged, "{refused} refused, {judged} judged");
 }
 
 /// There are 4, 4, 36, 100 and 708 patterns of one to five records, 2,884 of six and 18,404 of seven.

@@ -104,6 +104,17 @@ fn same_cases() {
     same(&sequence(&c, &choice(&a, &b)), &choice(&sequence(&c, &a), &sequence(&c, &b)));
 }
 
+/// Request P3: choices no longer pile up in new orders, and a choice has one place in any order.
+#[test]
+fn a_choice_is_a_set() {
+    let (a, b) = (letter(b'a'), letter(b'b'));
+    let told = compare(&repeat(&choice(&a, &sequence(&a, &a))), &repeat(&a), 100);
+    assert_eq!((pairs(&told), told.places, told.visits), (3, 10, 35));
+    assert_eq!(told.answer, Answer::Same);
+    let told = compare(&choice(&a, &b), &choice(&b, &a), 100);
+    assert_eq!((told.answer, told.places), (Answer::Same, 5));
+}
+
 #[test]
 fn edges() {
     let chance = &mut Chance::of(0, 0);
@@ -125,19 +136,19 @@ fn edges() {
     assert_eq!(judge(&call(asked, 100)).answer, Answer::Same);
 }
 
-/// A chain of 4,092 choices, which the derivative walks to its end on either side. It fills the store,
+/// A chain of 4,092 repeats, which the derivative walks to its end on either side. It fills the store,
 /// and its last record, loaded once more, is found at the last place.
 #[test]
 fn the_deepest_derivative() {
     let mut proof = vec![Record::Letter(b'a'), Record::Letter(b'b')];
     for before in 1..4_093 {
-        proof.push(Record::Choice(before, 0));
+        proof.push(Record::Repeat(before));
     }
-    proof.push(Record::Choice(4_092, 0));
+    proof.push(Record::Repeat(4_092));
     let list = vec![0xfd, 0x0f, 0xfd, 0x0f, 0, 0, 0, 0, 0, 0, 0, 0, 0, 0, 0, 0];
     let a = card(&letter(b'a'));
     let asked = Asked::Check { left: a.clone(), right: a, proof: card_bytes(&proof), list };
     let told = on_large_stack(move || judge(&call(asked, 100_000)));
     assert_eq!(told.answer, Answer::Rejected(Failing::Letter(0, b'a')));
-    assert_eq!((told.places, told.visits), (4_096, 2 * (2 * 4_092 + 1)));
+    assert_eq!((told.places, told.visits), (4_096, 2 * (4_092 + 1)));
 }

@@ -1,4 +1,4 @@
--- Cards of the patterns that document 01 signs, byte by byte: "Cards hold just the records needed, children first."
+-- Cards of the patterns that document 01 signs, and document 02's P3, byte by byte: "Cards hold just the records needed, children first."
 use Prim.Native.Nat.{ℕ}
 use mathlib.Core.List.{List, [], _∷_, _++_}
 
@@ -69,3 +69,7 @@ a-or-b = a ++ b ++ choice-record 0 0 1
 
 abbrev pub b-or-a : List ℕ
 b-or-a = b ++ a ++ choice-record 0 0 1
+
+-- `(a + a·a)*`
+abbrev pub once-or-twice-repeated : List ℕ
+once-or-twice-repeated = a ++ sequence-record 0 0 0 ++ choice-record 0 0 1 ++ repeat-record 2

@@ -1,10 +1,10 @@
--- Document 01's signed cases, those that are to be proved, in one list: each with its whole answer and all of its counts, in the rooms that the job
+-- Document 01's signed cases, those that are to be proved, and the pair of document 02's P3, in one list: each with its whole answer and all of its counts, in the rooms that the job
 -- program lends. That they all hold is `signed`, in Laws/Signed.
 use Prim.Native.Nat.{ℕ}
 use mathlib.Core.Bool.{true, false}
 use mathlib.Core.List.{List, [], _∷_}
 use mathlib.Core.Path.{_≡_}
-use Rattle.cards.specs.Samples.{nothing-card, empty-word-card, a, h, a-repeated, none-or-more, h-or-hh, repeats-then-b, a-twice, a-then-nothing, a-or-empty, nothing-repeated, a-or-b, b-or-a}
+use Rattle.cards.specs.Samples.{nothing-card, empty-word-card, a, h, a-repeated, none-or-more, h-or-hh, repeats-then-b, a-twice, a-then-nothing, a-or-empty, nothing-repeated, a-or-b, b-or-a, once-or-twice-repeated}
 use Rattle.matching.specs.Fits.{yes, no, Told as ToldOfMatch, fits-outcome}
 use Rattle.comparing.specs.Compare.{are-same, are-different, refused-by, Told, Outcome, compare-outcome}
 use Rattle.jobtext.specs.Answer.{lent-work, lent-pairs, lent-word}
@@ -72,7 +72,11 @@ empty-or-repeat = comparison empty-word-card nothing-repeated 100 (record { says
 
 -- `a + b` against `b + a`: same.
 abbrev pub either-order : Case
-either-order = comparison a-or-b b-or-a 100 (record { says = are-same; pairs = 3; places = 6; visits = 20 }) []
+either-order = comparison a-or-b b-or-a 100 (record { says = are-same; pairs = 3; places = 5; visits = 20 }) []
+
+-- `(a + a·a)*` against `a*`: same.
+abbrev pub once-or-twice : Case
+once-or-twice = comparison once-or-twice-repeated a-repeated 100 (record { says = are-same; pairs = 3; places = 10; visits = 35 }) []
 
 -- The list of all of them.
 abbrev pub cases : List Case
@@ -88,4 +92,5 @@ cases =
     ∷ repeat-or-nothing
     ∷ empty-or-repeat
     ∷ either-order
+    ∷ once-or-twice
     ∷ []

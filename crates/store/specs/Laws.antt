@@ -3,6 +3,16 @@ pub mod Room
 pub mod Finding
 pub mod Languages
 pub mod Wall
+pub mod Members
+pub mod Merging
+pub mod Interning
+pub mod Choosing
+pub mod Rules
+pub mod Growing
+pub mod Building
+pub mod Sets
+pub mod OnePlace
+pub mod Meaning
 pub mod Making
 pub mod Fresh
 pub mod Loading
@@ -11,6 +21,7 @@ pub mod LoadingRoom
 pub mod Entering
 pub mod SomeWord
 pub mod LegalRoom
+pub mod MergingRoom
 pub mod Cards
 pub mod FreshRoom
 pub mod OwnPlaces

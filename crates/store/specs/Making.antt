@@ -1,9 +1,11 @@
 -- Making a record. Document 01, "The store and its making rules":
---   choice: left nothing gives right; right nothing gives left; equal places give that place.
 --   sequence: left nothing or right nothing gives nothing; left empty gives right; right empty gives left.
 --   "Otherwise an identical record already in the store is used; failing that, each new record is written into the part of the
 --   room that starts at the first free place. These are the only rules." Number 7: "a new record, and no free place".
-use Prim.Native.Nat.{ℕ, suc}
+-- Of a choice document 02, P3: "a choice is a set: its left child is no choice, its members down the right side have strictly rising
+-- places, and nothing is no member. Making a choice merges two such sets and builds from the last member backward, before looking for
+-- identical records; no member gives nothing, one gives itself."
+use Prim.Native.Nat.{ℕ, zero, suc}
 use mathlib.Core.Bool.{Bool, true, false, cond, _&&_, _||_}
 use mathlib.Core.List.{List, [], _∷_, _++_}
 use lib.Dec.{eqb, ltb}
@@ -17,7 +19,7 @@ use Rattle.cards.specs.Mark.{bit, marked, has-empty}
 use Rattle.store.specs.declared.finding.Found.{Found}
 use Rattle.store.specs.declared.finding.Found.the-variants.{At, Absent}
 use Rattle.store.specs.declared.making.Ruled.{Ruled}
-use Rattle.store.specs.declared.making.Ruled.the-variants.{Gives, Stays}
+use Rattle.store.specs.declared.making.Ruled.the-variants.{Gives, Stays, Merges}
 
 -- What making comes to: the place of the record and the store afterwards, or a full room and the store as it stands.
 pub data Making : Type 0 where
@@ -49,10 +51,7 @@ unfoldable pub intern : ℕ → List Record → Record → Making
 unfolding find
 intern room store r = use-or-write room store r (find store r)
 
--- The rules, by kind and by the children's places: the rule gives a place, or the record stays one.
-abbrev pub choice-rule : ℕ → ℕ → Ruled
-choice-rule left right = cond (eqb left 0) (Gives right) (cond (eqb right 0 || eqb left right) (Gives left) Stays)
-
+-- The rules, by kind and by the children's places: the rule gives a place, the record stays one, or two sets are merged.
 abbrev pub sequence-rule : ℕ → ℕ → Ruled
 sequence-rule left right =
     cond (eqb left 0 || eqb right 0) (Gives 0) (cond (eqb left 1) (Gives right) (cond (eqb right 1) (Gives left) Stays))
@@ -61,7 +60,7 @@ abbrev pub rule : Kind → ℕ → ℕ → Ruled
 rule Nothing left right = Stays
 rule EmptyWord left right = Stays
 rule Letter left right = Stays
-rule Choice left right = choice-rule left right
+rule Choice left right = Merges
 rule Sequence left right = sequence-rule left right
 rule Repeat left right = Stays
 rule Unknown left right = Stays
@@ -78,13 +77,70 @@ new-record store kind letter left right =
       right = right;
     }
 
+-- The members of a set.
+
+abbrev pub choice-kind : ℕ
+choice-kind = 3
+
+abbrev pub is-choice : Record → Bool
+is-choice r = eqb (r .kind) choice-kind
+
+-- The first member of a set, and the place of the set behind it: a choice's left and right child. A place that is no choice is its own
+-- only member, and nothing is behind it.
+abbrev pub first : List Record → ℕ → ℕ
+first store place = cond (is-choice (child store place)) (child store place .left) place
+
+abbrev pub behind : List Record → ℕ → ℕ
+behind store place = cond (is-choice (child store place)) (child store place .right) 0
+
+-- The members of a place, down the right side: nothing has none. What is behind stands lower, so a depth above the place is enough.
+unfoldable pub members-to : ℕ → List Record → ℕ → List ℕ
+members-to zero store place = []
+members-to (suc depth) store place =
+    elim (eqb place 0) [ true ↦ [] | false ↦ first store place ∷ members-to depth store (behind store place) ]
+
+unfoldable pub members : List Record → ℕ → List ℕ
+unfolding members-to
+members store place = members-to (suc place) store place
+
+-- A member entered among members of rising places, in its turn, and once.
+unfoldable pub entered : ℕ → List ℕ → List ℕ
+entered m [] = m ∷ []
+entered m (n ∷ ns) =
+    elim (ltb m n) [ true ↦ m ∷ n ∷ ns | false ↦ elim (eqb m n) [ true ↦ n ∷ ns | false ↦ n ∷ entered m ns ] ]
+
+-- Two sets merged: each member of the first entered among those of the second.
+unfoldable pub merged : List ℕ → List ℕ → List ℕ
+unfolding entered
+merged [] ns = ns
+merged (m ∷ ms) ns = entered m (merged ms ns)
+
+-- A member put before the set that was built of the later ones: where that is nothing the member is the set, and else their choice is
+-- used or written.
+abbrev pub put-before : ℕ → ℕ → Making → Making
+put-before room m (placed rest store) =
+    cond (eqb rest 0) (placed m store) (intern room store (new-record store choice-kind 0 m rest))
+put-before room m (full store) = full store
+
+-- A set built from its last member backward: no member gives nothing, one gives itself.
+unfoldable pub built : ℕ → List Record → List ℕ → Making
+unfolding intern
+built room store [] = placed 0 store
+built room store (m ∷ ms) = put-before room m (built room store ms)
+
+-- The choice of two places.
+unfoldable pub choice : ℕ → List Record → ℕ → ℕ → Making
+unfolding members merged built
+choice room store left right = built room store (merged (members store left) (members store right))
+
 abbrev pub by-rule : Ruled → ℕ → List Record → Record → Making
 by-rule (Gives place) room store r = placed place store
 by-rule Stays room store r = intern room store r
+by-rule Merges room store r = choice room store (r .left) (r .right)
 
 -- Making a record in a store, in a room of so many places.
 unfoldable pub make : ℕ → List Record → ℕ → ℕ → ℕ → ℕ → Making
-unfolding intern
+unfolding intern choice
 make room store kind letter left right =
     by-rule (rule (kind-of kind) left right) room store (new-record store kind letter left right)
 

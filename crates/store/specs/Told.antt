@@ -7,7 +7,9 @@ use Rattle.store.specs.declared.making.Made.{Made}
 use Rattle.store.specs.declared.making.Made.the-variants.{Placed, Full}
 use Rattle.store.specs.declared.loading.Loaded.{Loaded}
 use Rattle.store.specs.declared.loading.Loaded.the-variants.{All, Full as AllFull}
-use Rattle.store.specs.Making.{Making, placed, full}
+use Rattle.store.specs.declared.merging.Side.{Side}
+use Rattle.cards.specs.declared.record.Record.{Record}
+use Rattle.store.specs.Making.{Making, placed, full, first, behind}
 use Rattle.store.specs.declared.entering.Entered.{Entered}
 use Rattle.store.specs.declared.entering.Entered.the-variants.{At, Full as NotEntered}
 use Rattle.store.specs.Room.{laid}
@@ -16,6 +18,10 @@ use Rattle.store.specs.Loading.{Loading, loaded, no-room, after-loading,
 abbrev pub told-making : Making → Made
 told-making (placed place store) = Placed place (length store)
 told-making (full store) = Full (length store)
+
+-- A set whose record was read: its place, its first member and the place of the set behind that.
+abbrev pub side : List Record → ℕ → Side
+side store place = record { place = place; first = first store place; behind = behind store place }
 
 abbrev pub told-loading : Loading → Loaded
 told-loading (loaded places store) = All (length store)

@@ -4,5 +4,6 @@ pub mod entering;
 pub mod finding;
 pub mod loading;
 pub mod making;
+pub mod merging;
 pub mod room;
 pub mod writing;

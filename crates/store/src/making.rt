@@ -1,6 +1,7 @@
 // Making a record: the rules, then finding, then writing.
 use crate::finding::Found;
 use crate::finding::find;
+use crate::merging::choice;
 use crate::writing::write;
 use cards::examine::as_mark;
 use cards::examine::has_empty;
@@ -14,7 +15,7 @@ ghost use Prim.Native.Nat.{_<_};
 ghost use Rattle.cards.specs.Record.{child};
 ghost use Rattle.cards.specs.Mark.{marked};
 ghost use Rattle.store.specs.Room.{store-in, places-of, laid};
-ghost use Rattle.store.specs.Making.{choice-rule, sequence-rule, rule, new-record, intern, make, after};
+ghost use Rattle.store.specs.Making.{sequence-rule, rule, new-record, intern, make, after};
 ghost use Rattle.store.specs.Told.{told-making};
 ghost use Rattle.store.specs.Good.{GoodStore};
 
@@ -24,10 +25,11 @@ pub enum Made {
     Full(usize),
 }
 
-// A rule gives a place, or the record stays one.
+// A rule gives a place, the record stays one, or two sets are merged.
 pub enum Ruled {
     Gives(usize),
     Stays,
+    Merges,
 }
 
 // Making a record of this kind and letter, with these children.
@@ -37,12 +39,14 @@ pub fn make(room: &mut [u8], places: usize, kind: u8, letter: u8, left: usize, r
     ensures { λ m. ⌜ m ≡ told-making (make (places-of (now (room .entry))) (store-in (now (room .entry)) places) kind letter left right) ⌝ }
     ensures { λ _. ⌜ now (room .exit) ≡ laid (after (make (places-of (now (room .entry))) (store-in (now (room .entry)) places) kind letter left right)) (now (room .entry)) ⌝ }
 {
-    let ruled = rule(named(kind), left, right);
-    if let Ruled::Gives(place) = ruled {
-        return Made::Placed(place, places);
+    match rule(named(kind), left, right) {
+        Ruled::Gives(place) => Made::Placed(place, places),
+        Ruled::Stays => {
+            let r = new_record(room, places, kind, letter, left, right);
+            intern(room, places, r)
+        }
+        Ruled::Merges => choice(room, places, left, right),
     }
-    let r = new_record(room, places, kind, letter, left, right);
-    intern(room, places, r)
 }
 
 // The record is used where it is found, and else written at the first free place.
@@ -63,7 +67,14 @@ pub fn intern(room: &mut [u8], places: usize, r: Record) -> Made
 }
 
 // The record of this kind, letter and children, with its mark.
-fn new_record(room: &[u8], places: usize, kind: u8, letter: u8, left: usize, right: usize) -> Record
+pub fn new_record(
+    room: &[u8],
+    places: usize,
+    kind: u8,
+    letter: u8,
+    left: usize,
+    right: usize,
+) -> Record
     requires { ⌜ GoodStore (now room) places ⌝ }
     requires { ⌜ (left < places) × (right < places) ⌝ }
     ensures { λ r. ⌜ r ≡ new-record (store-in (now (room .entry)) places) kind letter left right ⌝ }
@@ -101,24 +112,11 @@ fn rule(kind: Kind, left: usize, right: usize) -> Ruled
         Kind::Nothing => Ruled::Stays,
         Kind::EmptyWord => Ruled::Stays,
         Kind::Letter => Ruled::Stays,
-        Kind::Choice => choice_rule(left, right),
+        Kind::Choice => Ruled::Merges,
         Kind::Sequence => sequence_rule(left, right),
         Kind::Repeat => Ruled::Stays,
         Kind::Unknown => Ruled::Stays,
     }
-}
-
-// Left nothing gives right; right nothing gives left; equal places give that place.
-fn choice_rule(left: usize, right: usize) -> Ruled
-    ensures { λ r. ⌜ r ≡ choice-rule left right ⌝ }
-{
-    if left == 0 {
-        return Ruled::Gives(right);
-    }
-    if (right == 0) | (left == right) {
-        return Ruled::Gives(left);
-    }
-    Ruled::Stays
 }
 
 // Left nothing or right nothing gives nothing; left empty gives right; right empty gives left.

@@ -31,7 +31,7 @@ pub fn one_card(chance: &mut Chance) -> Vec<Record> {
 pub fn deep_card(chance: &mut Chance) -> Vec<Record> {
     let letters = alphabet(chance);
     let size = chance.pick(&[PATTERN_RECORDS / 4, PATTERN_RECORDS - 1, PATTERN_RECORDS, PATTERN_RECORDS]);
-    let chain = Chain::new(chance);
+    let chain = Chain::new(chance, size);
     let mut card = vec![Record::Letter(chance.pick(&letters)), Record::Letter(chance.pick(&letters))];
     while card.len() < size {
         card.push(chain.link(chance, card.len()));
@@ -40,25 +40,31 @@ pub fn deep_card(chance: &mut Chance) -> Vec<Record> {
 }
 
 /// A chain: records of one kind, each of which names the one before and, but for repeats, one of the
-/// card's first two records.
+/// card's first two records. In a chain of choices every other record is a repeat: a choice of choices
+/// is one set, and no deeper. A long set is a chain of sequences up to its turn, then choices that take
+/// these records as members, from the last one backward.
 pub struct Chain {
     kind: usize,
+    turn: usize,
 }
 
 impl Chain {
-    /// A chain of any kind.
-    pub fn new(chance: &mut Chance) -> Chain {
-        Chain { kind: chance.weighted(&[40, 20, 20, 20]) }
+    /// A chain of any kind, in a card of about so many records.
+    pub fn new(chance: &mut Chance, size: usize) -> Chain {
+        Chain { kind: chance.weighted(&[32, 16, 16, 16, 20]), turn: chance.between(size / 4, size) }
     }
 
     /// The record of the chain that has this number in the card.
     pub fn link(&self, chance: &mut Chance, number: usize) -> Record {
         let (before, first) = ((number - 1) as Place, chance.below(2) as Place);
+        let is_even = number.is_multiple_of(2);
         match self.kind {
-            0 => Record::Repeat(before),
-            1 => Record::Choice(before, first),
+            1 if !is_even => Record::Choice(before, first),
             2 => Record::Sequence(before, first),
-            _ => Record::Choice(first, before),
+            3 if !is_even => Record::Choice(first, before),
+            4 if number < self.turn => Record::Sequence(first, before),
+            4 if number <= 2 * self.turn - 2 => Record::Choice((2 * self.turn - 2 - number) as Place, before),
+            _ => Record::Repeat(before),
         }
     }
 }
@@ -75,7 +81,7 @@ pub fn long_power(chance: &mut Chance) -> (Vec<Record>, Vec<u8>) {
 /// Two cards to compare: equal by the laws, near-equal, or unlike.
 pub fn two_cards(chance: &mut Chance) -> (Vec<Record>, Vec<Record>) {
     let letters = alphabet(chance);
-    let (left, right) = match chance.weighted(&[31, 18, 7, 5, 15, 10, 3, 2, 8, 2]) {
+    let (left, right) = match chance.weighted(&[28, 16, 6, 4, 15, 10, 3, 2, 8, 2, 7]) {
         0 => {
             let left = small_pattern(chance, &letters);
             let right = equal_pattern(chance, &left);
@@ -103,7 +109,8 @@ pub fn two_cards(chance: &mut Chance) -> (Vec<Record>, Vec<Record>) {
             let (left, right) = (chance.between(1, 16), chance.between(1, 16));
             return (layout::web(chance, &letters, left), layout::web(chance, &letters, right));
         }
-        _ => return (one_card(chance), one_card(chance)),
+        9 => return (one_card(chance), one_card(chance)),
+        _ => sets(chance, &letters),
     };
     lay_out_both(chance, &left, &right, &letters)
 }
@@ -283,12 +290,58 @@ fn many_letters(chance: &mut Chance, count: usize) -> (Rc<Pattern>, Rc<Pattern>)
     if chance.percent(60) {
         some.remove(chance.below(count));
     }
-    let (left, right) = (any_of(&all), any_of(&some));
+    let (left, right) = (any_letter(chance, &all), any_letter(chance, &some));
     match chance.below(3) {
         0 => (left, right),
         1 => (repeat(&left), repeat(&right)),
         _ => (repeat(&left), choice(&empty_word(), &sequence(&right, &repeat(&left)))),
     }
+}
+
+/// The choice of some letters. Of many it is grouped to the right, which takes a place for each letter and
+/// each choice; grouped to the left each further letter takes as many places as there are letters before.
+fn any_letter(chance: &mut Chance, letters: &[u8]) -> Rc<Pattern> {
+    if chance.percent(if letters.len() < 60 { 50 } else { 5 }) {
+        return any_of(letters);
+    }
+    let parts = letters.iter().map(|&own| letter(own));
+    parts.rev().reduce(|all, part| choice(&part, &all)).expect("there is a letter")
+}
+
+/// Choices of the same parts, or of nearly the same, in any order and grouping.
+fn sets(chance: &mut Chance, letters: &[u8]) -> (Rc<Pattern>, Rc<Pattern>) {
+    let count = chance.between(2, 9);
+    let parts: Vec<Rc<Pattern>> = (0..count)
+        .map(|_| {
+            let records = chance.between(1, 5);
+            random(chance, letters, records)
+        })
+        .collect();
+    let mut others = parts.clone();
+    if chance.percent(40) {
+        let spot = chance.below(count);
+        others[spot] = near(chance, &others[spot], letters);
+    }
+    let (left, right) = (joined(chance, parts), joined(chance, others));
+    match chance.below(4) {
+        0 => (left, right),
+        1 => (repeat(&left), repeat(&right)),
+        2 => (sequence(&left, &right), sequence(&right, &left)),
+        _ => (repeat(&left), choice(&empty_word(), &sequence(&right, &repeat(&left)))),
+    }
+}
+
+/// The choice of some parts, joined by chance; a part or two may come twice.
+fn joined(chance: &mut Chance, mut parts: Vec<Rc<Pattern>>) -> Rc<Pattern> {
+    for _ in 0..chance.below(3) {
+        parts.push(parts[chance.below(parts.len())].clone());
+    }
+    while parts.len() > 1 {
+        let left = parts.swap_remove(chance.below(parts.len()));
+        let right = parts.swap_remove(chance.below(parts.len()));
+        parts.push(choice(&left, &right));
+    }
+    parts.remove(0)
 }
 
 /// Two small cards, one of which has a letter record for every byte: few of them are reached, and all

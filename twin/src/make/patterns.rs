@@ -197,7 +197,17 @@ pub fn of_word(chance: &mut Chance, word: &[u8]) -> Rc<Pattern> {
     sequence(&left, &of_word(chance, &word[cut..]))
 }
 
-/// The choice of one or more letters.
+/// The sequence of one or more parts, grouped to the left.
+pub fn grouped_left(parts: impl Iterator<Item = Rc<Pattern>>) -> Rc<Pattern> {
+    parts.reduce(|all, part| sequence(&all, &part)).expect("there is a part")
+}
+
+/// The sequence of one or more parts, grouped to the right.
+pub fn grouped_right(parts: impl DoubleEndedIterator<Item = Rc<Pattern>>) -> Rc<Pattern> {
+    parts.rev().reduce(|all, part| sequence(&part, &all)).expect("there is a part")
+}
+
+/// The choice of one or more letters, grouped to the left.
 pub fn any_of(letters: &[u8]) -> Rc<Pattern> {
     letters[1..].iter().fold(letter(letters[0]), |some, &next| choice(&some, &letter(next)))
 }

@@ -38,23 +38,33 @@ pub fn of_both_cards(left: &[Record], right: &[Record]) -> Proof {
 }
 
 /// A deep proof: both cards, and a chain that takes places up to the last one of the largest work
-/// room, or nearly; then the chain's last record again, which is to be found where it stands. The
-/// chain's end is listed, mostly first: the derivative goes as deep as it can.
+/// room, or nearly; then the chain's last record again, or the choice of it and itself, or of it and an
+/// earlier one, which is mostly to be found where it stands. The chain's end is listed, mostly first: the
+/// derivative goes as deep as it can.
 pub fn deep(chance: &mut Chance, left: &[Record], right: &[Record]) -> Proof {
     let Proof { mut records, mut pairs } = of_both_cards(left, right);
     let mut store = Store::fresh(*WORK_BYTES.end());
-    let loaded = [left, right, &records].map(|card| store.load(card).expect("two cards take few places"));
-    let [_, _, mut places] = loaded;
-    let chain = families::Chain::new(chance);
+    let loaded = [left, right, &records].map(|card| store.load(card));
+    let [Ok(_), Ok(_), Ok(mut places)] = loaded else {
+        return Proof { records, pairs };
+    };
     let wanted = chance.pick(&[1_024, 4_095, 4_096, 4_096, 4_096]);
+    let chain = families::Chain::new(chance, wanted);
     while store.places() < wanted && records.len() < PROOF_RECORDS {
         let link = chain.link(chance, records.len());
-        places.push(store.make(link.renamed(|child| places[child as usize])).expect("a place is free"));
         records.push(link);
+        match store.make(link.renamed(|child| places[child as usize])) {
+            Ok(place) => places.push(place),
+            Err(_) => break,
+        }
     }
     let end = records.len() - 1;
     let again = chance.below(3).min(PROOF_RECORDS - records.len());
-    records.extend(std::iter::repeat_n(records[end], again));
+    for _ in 0..again {
+        let (earlier, last) = (chance.below(end) as Place, end as Place);
+        let links = [records[end], records[end], Record::Choice(last, last), Record::Choice(earlier, last)];
+        records.push(chance.pick(&links));
+    }
     pairs.insert(if chance.percent(75) { 0 } else { 1 }, listed(end, end + again));
     Proof { records, pairs }
 }

@@ -13,7 +13,7 @@ use Rattle.cards.specs.Examine.{records-standing, examined, pattern-card}
 use Rattle.cards.specs.Record.{first-records, records}
 use Rattle.cards.specs.Letters.{mentions, those-below}
 use Rattle.cards.specs.Samples.{a-repeated, none-or-more}
-use Rattle.store.specs.Making.{find-from, find, intern, make}
+use Rattle.store.specs.Making.{find-from, find, intern, members-to, members, entered, merged, built, choice, make}
 use Rattle.store.specs.Loading.{load-after, load}
 use Rattle.derivative.specs.Derivative.{derive-to, derive}
 use Rattle.matching.specs.Refusals.{standing-of}
@@ -33,7 +33,7 @@ use Rattle.jobtext.specs.Signed.{Case, comparison, match-of, Holds, comp
 
 -- Every signed case comes to the answer signed.
 pub signed : AllHold cases
-unfolding compare-outcome compare-standing fits-outcome fits-in follow standing-of tried open-both pattern-card examined records-standing records first-records mentions those-below load load-after make intern find find-from derive derive-to search take-pairs by-letters stands-in word-to
+unfolding compare-outcome compare-standing fits-outcome fits-in follow standing-of tried open-both pattern-card examined records-standing records first-records mentions those-below load load-after make choice members members-to merged entered built intern find find-from derive derive-to search take-pairs by-letters stands-in word-to
 signed =
     more (compared refl refl)
     (more (compared refl refl)
@@ -45,7 +45,8 @@ signed =
     (more (compared refl refl)
     (more (compared refl refl)
     (more (compared refl refl)
-    (more (compared refl refl) none))))))))))
+    (more (compared refl refl)
+    (more (compared refl refl) none)))))))))))
 
 -- A case's job, and the text of the answer signed: a case that holds is answered by it.
 abbrev pub job-of : Case → Job

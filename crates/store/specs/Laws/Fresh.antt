@@ -1,6 +1,7 @@
 -- The fresh store is good.
 use Prim.Native.Nat.{ℕ, zero, suc, _<_, _≤_}
 use native.Mathlib.Omega.{arith}
+use mathlib.Core.Bool.{true, false≢true}
 use mathlib.Core.Path.{_≡_, refl, ap}
 use Rattle.language.specs.Laws.Derivative.{nullable}
 use Rattle.cards.specs.declared.record.Record.{Record}
@@ -10,8 +11,8 @@ use Rattle.cards.specs.Mark.{bit}
 use Rattle.cards.specs.Meaning.{patterns, numbered}
 use Rattle.cards.specs.Standing.{Line, Obeys}
 use Rattle.store.specs.Room.{fresh-store}
-use Rattle.store.specs.Making.{placed, find-from, find, intern, make}
-use Rattle.store.specs.Good.{Good, most-places, make-again}
+use Rattle.store.specs.Making.{placed, find-from, find, intern, is-choice, make}
+use Rattle.store.specs.Good.{Good, IsSet, most-places, make-again}
 use Rattle.store.specs.Laws.Wall.{Ready}
 
 -- What holds at 0 and at 1 holds at both places.
@@ -59,6 +60,7 @@ fresh-good =
       letter = both-places (λ (at : ℕ). child fresh-store at .letter < 256) (omega arith) (omega arith);
       mark = both-places (λ (at : ℕ). child fresh-store at .mark ≡ bit (nullable (numbered (patterns fresh-store) at))) mark-0 mark-1;
       once = apart;
+      sets = both-places (λ (at : ℕ). is-choice (child fresh-store at) ≡ true → IsSet fresh-store (child fresh-store at)) (λ e. absurd (false≢true e)) (λ e. absurd (false≢true e));
       settled = both-places (λ (at : ℕ). (room : ℕ) → make-again room fresh-store (child fresh-store at) ≡ placed at fresh-store) settled-0 settled-1;
       in-turn = λ at two l. absurd (omega arith);
     }

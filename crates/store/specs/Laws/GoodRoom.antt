@@ -17,7 +17,7 @@ use Rattle.store.specs.Room.{store-in, places-of, laid}
 use Rattle.store.specs.Good.{Good, GoodStore}
 use Rattle.store.specs.Laws.Room.{store-of-laid, length-laid, bytes-laid}
 use Rattle.store.specs.Laws.Wall.{Ready, Kept}
-use Rattle.store.specs.Laws.Making.{lower-left, lower-right}
+use Rattle.store.specs.Laws.Members.{lower-left, lower-right}
 
 bit-small : (b : Bool) → bit b < 256
 bit-small true = omega arith

@@ -25,7 +25,8 @@ use Rattle.store.specs.Told.{told-making, told-loading, Mapped}
 use Rattle.store.specs.Good.{GoodStore, Loadable}
 use Rattle.store.specs.Laws.Room.{laid-same, laid-laid}
 use Rattle.store.specs.Laws.Wall.{grows-length, Kept, kept-refl, kept-trans, Makeable, MakeLaw, was-placed, was-full}
-use Rattle.store.specs.Laws.Making.{lower-left, lower-right, make-law}
+use Rattle.store.specs.Laws.Members.{lower-left, lower-right}
+use Rattle.store.specs.Laws.Making.{make-law}
 use Rattle.store.specs.Laws.Loading.{GoodCard, Standing, go-on, can, next-standing}
 use Rattle.store.specs.Laws.GoodRoom.{room-ready, length-store-in, length-after, places-after, store-after, good-after}
 

@@ -8,6 +8,7 @@ use mathlib.Core.List.{List, [], _∷_, _++_}
 use mathlib.Core.Logic.{inl}
 use mathlib.Core.Path.{_≡_, refl, sym, _∙_, ap}
 use lib.Dec.{eqb}
+use borrow.Author.Tests.{eq-eqb}
 use lib.ListN.{length}
 use Rattle.language.specs.Word.{Word, Bytes, none, one}
 use Rattle.language.specs.Laws.Words.{over-join}
@@ -19,9 +20,10 @@ use Rattle.cards.specs.Mark.{bit}
 use Rattle.cards.specs.Standing.{Line}
 use Rattle.cards.specs.Laws.Meaning.{pattern-of-record}
 use Rattle.store.specs.declared.making.Ruled.the-variants.{Gives}
-use Rattle.store.specs.Making.{placed, rule}
-use Rattle.store.specs.Good.{Good}
-use Rattle.store.specs.Laws.Making.{make-by-a-rule, language-of-record}
+use Rattle.store.specs.Making.{placed, rule, choice-kind, members}
+use Rattle.store.specs.Good.{Good, Set, member}
+use Rattle.store.specs.Laws.Rules.{make-given}
+use Rattle.store.specs.Laws.Meaning.{language-of-record}
 use Rattle.store.specs.Laws.Languages.{language-at, operator-over}
 
 -- A word of bytes in the language at a place.
@@ -37,7 +39,7 @@ module _ {store : List Record} (g : Good store) (at : ℕ) (l : at < length stor
   -- No rule applies to a record of the store: it would give a place that is not the record's own.
   no-rule : {place : ℕ} → rule (kind-of (r .kind)) (r .left) (r .right) ≡ Gives place → place ≡ at
   no-rule {place} e =
-      let made = make-by-a-rule 0 store (r .kind) (r .letter) (r .left) (r .right) e in
+      let made = make-given 0 store (r .kind) (r .letter) (r .left) (r .right) e in
       let own = g .settled at l 0 in
       same (sym made ∙ own)
     where
@@ -54,6 +56,13 @@ module _ {store : List Record} (g : Good store) (at : ℕ) (l : at < length stor
       g .once at 0 l (let two = g .some in omega arith)
       ((λ i. record { kind = k i; letter = a i; mark = mark i; fourth = g .obeys at l .fourth i; left = b i; right = c i }) ∙ sym (g .nothing))
 
+  -- The left child of a choice is a member, and nothing is none.
+  choice-left : r .kind ≡ choice-kind → 0 < r .left
+  choice-left k = go (g .sets at l (eq-eqb (r .kind) choice-kind k) .set)
+    where
+      go : Set store 0 (r .left ∷ members store (r .right)) → 0 < r .left
+      go (member h _ _ _) = h
+
   -- A word of the operator's language is one of the place's.
   from-operator : (w : Word) → Bytes w
       → operator-over (kind-of (r .kind)) (r .letter) (language-at store (r .left)) (language-at store (r .right)) w → WordAt store at
@@ -64,15 +73,8 @@ module _ {store : List Record} (g : Good store) (at : ℕ) (l : at < length stor
   some-here pos lower (Line.empty-word k _ _ _) = from-operator [] none (rw k refl)
   some-here pos lower (Line.letter k _ _) = from-operator (r .letter ∷ []) (one (g .letter at l) none) (rw k refl)
   some-here pos lower (Line.choice k _ m n) =
-      let first = lower (r .left) (above-zero (decLt 0 (r .left))) m in
+      let first = lower (r .left) (choice-left k) m in
       from-operator (first .word) (first .bytes) (rw k (inl (first .holds)))
-    where
-      above-zero : Dec (0 < r .left) → 0 < r .left
-      above-zero (yes h) = h
-      above-zero (no h) =
-          let z : r .left ≡ 0 = omega arith in
-          let e = no-rule {place = r .right} (rw (k, z) refl) in
-          absurd (omega arith)
   some-here pos lower (Line.sequence k _ m n) =
       let first = lower (r .left) (left-above (decLt 0 (r .left))) m in
       let second = lower (r .right) (right-above (decLt 0 (r .right))) n in

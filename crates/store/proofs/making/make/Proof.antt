@@ -1,4 +1,5 @@
--- `make` answers as the definition does: by the rule's place where the rule gives one, and else by interning the new record.
+-- `make` answers as the definition does: by the rule's place where the rule gives one, by using or writing the new record where it stays
+-- one, and by the choice of two sets where they are merged.
 use Prim.Native.Nat.{ℕ}
 use mathlib.Core.List.{List}
 use mathlib.Core.Path.{_≡_, sym, _∙_, ap}
@@ -10,9 +11,9 @@ use Rattle.cards.specs.Laws.Record.{length-first}
 use Rattle.store.specs.declared.making.Made.{Made}
 use Rattle.store.specs.declared.making.Made.the-variants.{Placed}
 use Rattle.store.specs.declared.making.Ruled.{Ruled}
-use Rattle.store.specs.declared.making.Ruled.the-variants.{Gives, Stays}
+use Rattle.store.specs.declared.making.Ruled.the-variants.{Gives, Stays, Merges}
 use Rattle.store.specs.Room.{store-in, places-of, laid}
-use Rattle.store.specs.Making.{rule, new-record, by-rule, intern, make, after}
+use Rattle.store.specs.Making.{rule, new-record, by-rule, intern, choice, make, after}
 use Rattle.store.specs.Told.{told-making}
 use Rattle.store.specs.Good.{GoodStore}
 use Rattle.store.specs.Laws.Room.{laid-same}
@@ -43,23 +44,21 @@ module _ (room : List ℕ) (places kind letter left right : ℕ) {k : Kind} (is 
       × (exit ≡ laid (after (make (places-of room) (store-in room places) kind letter left right)) room)
   told-interned f g m w = rw (by-ruled f, ← g) (m, w)
 
+  told-merged : ruled ≡ Merges
+      → {made : Made} → made ≡ told-making (choice (places-of room) (store-in room places) left right)
+      → {exit : List ℕ} → exit ≡ laid (after (choice (places-of room) (store-in room places) left right)) room
+      → (made ≡ told-making (make (places-of room) (store-in room places) kind letter left right))
+      × (exit ≡ laid (after (make (places-of room) (store-in room places) kind letter left right)) room)
+  told-merged f m w = rw (by-ruled f) (m, w)
+
 named-requires : tie.Need-named-requires
 named-requires c κs = search needs
 
 rule-requires : tie.Need-rule-requires
 rule-requires c κs = search needs
 
-enum-known-ruled : tie.Need-enum-known-ruled
-enum-known-ruled c = search needs
-
-returns : tie.Need-returns
-returns c =
-    let a = c .before .before .before .before .before .before .args in
-    told-given (a .room .now) (a .places) (a .kind) (a .letter) (a .left) (a .right)
-    (c .before .before .before .before .named .ensures)
-    (c .before .before .before .rule .ensures)
-    (c .before .before .before .before .before .before .pre .0)
-    (c .before .ruled .given .1)
+enum-known-place : tie.Need-enum-known-place
+enum-known-place c = search needs
 
 enum-told : tie.Need-enum-told
 enum-told c = search needs
@@ -69,6 +68,21 @@ new-record-requires c κs = search needs
 
 intern-requires : tie.Need-intern-requires
 intern-requires c κs = search needs
+
+enum-told-2 : tie.Need-enum-told-2
+enum-told-2 c = search needs
+
+choice-requires : tie.Need-choice-requires
+choice-requires c κs = search needs
+
+returns : tie.Need-returns
+returns c =
+    let a = c .before .before .before .before .before .before .args in
+    told-given (a .room .now) (a .places) (a .kind) (a .letter) (a .left) (a .right)
+    (c .before .before .before .before .named .ensures)
+    (c .before .before .before .rule .ensures)
+    (c .before .before .before .before .before .before .pre .0)
+    (c .before .place .given .1)
 
 same-length : tie.Need-same-length
 same-length c = search needs
@@ -84,16 +98,33 @@ returns-2 c =
     (c .before .before .intern .ensures .0)
     (c .before .before .intern .ensures .1)
 
+same-length-2 : tie.Need-same-length-2
+same-length-2 c = search needs
+
+returns-3 : tie.Need-returns-3
+returns-3 c =
+    let a = c .before .before .before .before .before .before .before .before .before .args in
+    told-merged (a .room .now) (a .places) (a .kind) (a .letter) (a .left) (a .right)
+    (c .before .before .before .before .before .before .before .named .ensures)
+    (c .before .before .before .before .before .before .rule .ensures)
+    (c .before .before .before .before .enum-told2 .given .1)
+    (c .before .before .choice .ensures .0)
+    (c .before .before .choice .ensures .1)
+
 pub make-spec : {M : Type 1} → statement M
 make-spec =
     tie.close
     (tie.spec
     named-requires
     rule-requires
-    enum-known-ruled
-    returns
+    enum-known-place
     enum-told
     new-record-requires
     intern-requires
+    enum-told-2
+    choice-requires
+    returns
     same-length
-    returns-2)
+    returns-2
+    same-length-2
+    returns-3)

@@ -15,9 +15,6 @@ enum-told-3 c = search needs
 enum-told-4 : tie.Need-enum-told-4
 enum-told-4 c = search needs
 
-choice-rule-requires : tie.Need-choice-rule-requires
-choice-rule-requires c κs = search needs
-
 enum-told-5 : tie.Need-enum-told-5
 enum-told-5 c = search needs
 
@@ -40,7 +37,7 @@ returns-3 : tie.Need-returns-3
 returns-3 c = search needs
 
 returns-4 : tie.Need-returns-4
-returns-4 c = rw (c .before .enum-told4 .given .1) (c .choice-rule .ensures)
+returns-4 c = search needs
 
 returns-5 : tie.Need-returns-5
 returns-5 c = rw (c .before .enum-told5 .given .1) (c .sequence-rule .ensures)
@@ -59,7 +56,6 @@ rule-spec =
     enum-told-2
     enum-told-3
     enum-told-4
-    choice-rule-requires
     enum-told-5
     sequence-rule-requires
     enum-told-6
