@@ -25,6 +25,7 @@ pub fn calls() -> Vec<Larger> {
     calls.extend((2..=8).map(letter_before_the_last));
     calls.extend([4, 8, 13, 20, 26].map(any_letters));
     calls.extend([10, 40, 80, 120].map(optional_steps));
+    calls.extend([10, 40, 80, 120].map(optional_step_again));
     calls.extend([5, 10, 20].map(handoff));
     calls
 }
@@ -50,12 +51,23 @@ fn any_letters(count: u8) -> Larger {
     larger(compared, &repeat(&any_of(&letters)), &repeat(&in_turns))
 }
 
-/// So many steps, each of which may be left out: the empty word stands last in a choice, or first.
+/// So many steps, each of which may be left out, no two of one letter.
 fn optional_steps(count: u8) -> Larger {
-    let each = |step: fn(Rc<Pattern>) -> Rc<Pattern>| grouped_left((1..=count).map(letter).map(step));
-    let left = each(|step| choice(&step, &empty_word()));
-    let right = each(|step| choice(&empty_word(), &step));
-    larger(format!("`(s1+1)·..·(s{count}+1)` and `(1+s1)·..·(1+s{count})`"), &left, &right)
+    let compared = format!("`(s1+1)·..·(s{count}+1)` and `(1+s1)·..·(1+s{count})`");
+    optional(compared, (1..=count).map(letter).collect())
+}
+
+/// The same of one letter.
+fn optional_step_again(count: u8) -> Larger {
+    optional(format!("`(s+1)·..·(s+1)` and `(1+s)·..·(1+s)`, {count} times"), vec![letter(b's'); count as usize])
+}
+
+/// Steps that may be left out: the empty word stands last in each choice, or first.
+fn optional(compared: String, steps: Vec<Rc<Pattern>>) -> Larger {
+    let each = |one: fn(&Rc<Pattern>) -> Rc<Pattern>| grouped_left(steps.iter().map(one));
+    let left = each(|step| choice(step, &empty_word()));
+    let right = each(|step| choice(&empty_word(), step));
+    larger(compared, &left, &right)
 }
 
 /// So many steps again and again, and the same where the middle step may come twice. Of an even number
