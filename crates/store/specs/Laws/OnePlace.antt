@@ -1,5 +1,5 @@
--- Choices of equal members are one place, in any order and grouping: (p + q) + r, p + (q + r) and r + (q + p), made one after the other in
--- one store.
+-- Choices of equal members are one place, in any order and grouping: (p + q) + r, p + (q + r) and r + (q + p), whichever of them is made
+-- first and whatever else is made between.
 use Prim.Native.Nat.{ℕ, _<_}
 use native.Mathlib.Omega.{arith}
 use mathlib.Core.List.{List}
@@ -8,7 +8,7 @@ use lib.ListN.{length}
 use Rattle.cards.specs.declared.record.Record.{Record}
 use Rattle.store.specs.Making.{Making, placed, choice-kind, members, merged, built, choice, make}
 use Rattle.store.specs.Good.{Good, Set}
-use Rattle.store.specs.Laws.Wall.{Grows, grows-refl, grows-trans, grows-length, Ready, Kept}
+use Rattle.store.specs.Laws.Wall.{Grows, grows-refl, grows-trans, grows-length, Ready, Kept, kept-trans}
 use Rattle.store.specs.Laws.Members.{members-set, members-kept}
 use Rattle.store.specs.Laws.Merging.{merged-set}
 use Rattle.store.specs.Laws.Sets.{merged-either-order, merged-either-grouping}
@@ -55,58 +55,69 @@ module _ {room : ℕ} {store : List Record} (ready : Ready room store) {left rig
           (record { kept = h .kept; inside = h .inside; lists = h .lists; set = members-set (h .kept .ready .good) p (h .inside) }))
       go (ran-out h) f = let z : _≡_ {A = ℕ} 0 1 = cc in absurd (omega arith)
 
--- (p + q) + r was made, then of the same three, with more records placed or not, another choice of the same members.
-module _ {room : ℕ} {store : List Record} (ready : Ready room store) {p q r : ℕ}
-    (i : p < length store) (j : q < length store) (k : r < length store)
-    {pq one : ℕ} {s₁ s₂ : List Record} (a : chosen room store p q ≡ placed pq s₁) (b : chosen room s₁ pq r ≡ placed one s₂) where
-  first : Chosen room store p q pq s₁
-  first = was-chosen ready i j a
+-- Three places joined by two choices, from a store to another: (p + q) + r, p + (q + r) or r + (q + p).
+pub data Joined (room : ℕ) (p q r : ℕ) (store : List Record) (place : ℕ) (store′ : List Record) : Type 0 where
+  left-first : {first : ℕ} {between : List Record} → chosen room store p q ≡ placed first between → chosen room between first r ≡ placed place store′
+      → Joined room p q r store place store′
+  right-first : {first : ℕ} {between : List Record} → chosen room store q r ≡ placed first between → chosen room between p first ≡ placed place store′
+      → Joined room p q r store place store′
+  turned : {first : ℕ} {between : List Record} → chosen room store q p ≡ placed first between → chosen room between r first ≡ placed place store′
+      → Joined room p q r store place store′
 
-  later : {n : ℕ} {s : List Record} → Grows store s → n < length store → n < length s
+-- What was joined, in a store grown from one that has all three: the members are those of the three, merged.
+record Joins (room : ℕ) (base : List Record) (p q r : ℕ) (store : List Record) (place : ℕ) (store′ : List Record) : Type 0 where
+  kept : Kept room store store′
+  inside : place < length store′
+  lists : members store′ place ≡ merged (merged (members base p) (members base q)) (members base r)
+
+module _ {base : List Record} (good : Good base) {p q r : ℕ} (i : p < length base) (j : q < length base) (k : r < length base) where
+  set-of : (n : ℕ) → n < length base → Set base 0 (members base n)
+  set-of n l = members-set good n l
+
+  still : {s : List Record} → Grows base s → (n : ℕ) → n < length base → members s n ≡ members base n
+  still g n l = members-kept good g n l
+
+  later : {n : ℕ} {s : List Record} → Grows base s → n < length base → n < length s
   later g l = omega (arith, grows-length g)
 
-  second : Chosen room s₁ pq r one s₂
-  second = was-chosen (first .kept .ready) (first .inside) (later (first .kept .grows) k) b
+  module _ {room : ℕ} {store : List Record} (ready : Ready room store) (grown : Grows base store) {place : ℕ} {store′ : List Record} where
+    -- The choice of x and y, then the choice of z with it, to its left or to its right.
+    joins-behind : {x y z first : ℕ} {between : List Record} (l : x < length base) (m : y < length base) (n : z < length base)
+        → chosen room store x y ≡ placed first between → chosen room between z first ≡ placed place store′
+        → merged (members base z) (merged (members base x) (members base y)) ≡ merged (merged (members base p) (members base q)) (members base r)
+        → Joins room base p q r store place store′
+    joins-behind {x} {y} {z} {first} {between} l m n a b e =
+        let g = was-chosen ready (later grown l) (later grown m) a in
+        let more = grows-trans grown (g .kept .grows) in
+        let h = was-chosen (g .kept .ready) (later more n) (g .inside) b in
+        record {
+          kept = kept-trans (g .kept) (h .kept);
+          inside = h .inside;
+          lists = h .lists ∙ ap₂ merged (still more z n) (g .lists ∙ ap₂ merged (still grown x l) (still grown y m)) ∙ e;
+        }
 
-  grown : Grows store s₂
-  grown = grows-trans (first .kept .grows) (second .kept .grows)
+    joins : Joined room p q r store place store′ → Joins room base p q r store place store′
+    joins (left-first a b) =
+        let g = was-chosen ready (later grown i) (later grown j) a in
+        let more = grows-trans grown (g .kept .grows) in
+        let h = was-chosen (g .kept .ready) (g .inside) (later more k) b in
+        record {
+          kept = kept-trans (g .kept) (h .kept);
+          inside = h .inside;
+          lists = h .lists ∙ ap₂ merged (g .lists ∙ ap₂ merged (still grown p i) (still grown q j)) (still more r k);
+        }
+    joins (right-first a b) = joins-behind j k i a b (sym (merged-either-grouping (set-of p i) (set-of q j) (set-of r k)))
+    joins (turned a b) =
+        joins-behind j i k a b
+        (ap (merged (members base r)) (merged-either-order (set-of q j) (set-of p i))
+        ∙ merged-either-order (set-of r k) (merged-set (set-of p i) (set-of q j)))
 
-  set-of : (n : ℕ) → n < length store → Set store 0 (members store n)
-  set-of n l = members-set (ready .good) n l
-
-  still : {s : List Record} → Grows store s → (n : ℕ) → n < length store → members s n ≡ members store n
-  still g n l = members-kept (ready .good) g n l
-
-  one-lists : members s₂ one ≡ merged (merged (members store p) (members store q)) (members store r)
-  one-lists = second .lists ∙ ap₂ merged (first .lists) (still (first .kept .grows) r k)
-
-  -- A later choice of z and the choice of x and y, of the same members: it is that place.
-  same-place : {x y z xy other : ℕ} {s₃ s₄ : List Record} → x < length store → y < length store → z < length store
-      → merged (merged (members store p) (members store q)) (members store r) ≡ merged (members store z) (merged (members store x) (members store y))
-      → chosen room s₂ x y ≡ placed xy s₃ → chosen room s₃ z xy ≡ placed other s₄ → one ≡ other
-  same-place {x} {y} {z} {xy} {other} {s₃} {s₄} l m n e c d =
-      one-place (h .kept .ready .good) one other (omega (arith, second .inside, grows-length more)) (h .inside)
-      (members-kept (second .kept .ready .good) more one (second .inside)
-      ∙ one-lists ∙ e
-      ∙ sym (h .lists ∙ ap₂ merged (still (grows-trans grown (g .kept .grows)) z n) (g .lists ∙ ap₂ merged (still grown x l) (still grown y m))))
-    where
-      g : Chosen room s₂ x y xy s₃
-      g = was-chosen (second .kept .ready) (later grown l) (later grown m) c
-
-      h : Chosen room s₃ z xy other s₄
-      h = was-chosen (g .kept .ready) (later (grows-trans grown (g .kept .grows)) n) (g .inside) d
-
-      more : Grows s₂ s₄
-      more = grows-trans (g .kept .grows) (h .kept .grows)
-
-  -- p + (q + r) is that place.
-  pub in-either-grouping : {qr other : ℕ} {s₃ s₄ : List Record} → chosen room s₂ q r ≡ placed qr s₃ → chosen room s₃ p qr ≡ placed other s₄ → one ≡ other
-  in-either-grouping c d = same-place j k i (merged-either-grouping (set-of p i) (set-of q j) (set-of r k)) c d
-
-  -- And r + (q + p) is.
-  pub in-either-order : {qp other : ℕ} {s₃ s₄ : List Record} → chosen room s₂ q p ≡ placed qp s₃ → chosen room s₃ r qp ≡ placed other s₄ → one ≡ other
-  in-either-order c d =
-      same-place j i k
-      (merged-either-order (merged-set (set-of p i) (set-of q j)) (set-of r k)
-      ∙ ap (merged (members store r)) (merged-either-order (set-of p i) (set-of q j)))
-      c d
+  -- Joined in any of the three ways, and again in any of them in any store grown from there: it is one place.
+  pub in-any-order : {room : ℕ} {s₁ s₂ s₃ s₄ : List Record} {one other : ℕ} → Ready room s₁ → Grows base s₁ → Joined room p q r s₁ one s₂
+      → Ready room s₃ → Grows s₂ s₃ → Joined room p q r s₃ other s₄ → one ≡ other
+  in-any-order {one = one} {other = other} ready₁ g₁ a ready₃ g₃ b =
+      let x = joins ready₁ g₁ a in
+      let y = joins ready₃ (grows-trans (grows-trans g₁ (x .kept .grows)) g₃) b in
+      let more = grows-trans g₃ (y .kept .grows) in
+      one-place (y .kept .ready .good) one other (omega (arith, x .inside, grows-length more)) (y .inside)
+      (members-kept (x .kept .ready .good) more one (x .inside) ∙ x .lists ∙ sym (y .lists))
