@@ -1,6 +1,8 @@
 //! A choice is a set (request P3): one place in any order and grouping, the shape of its records, the
 //! moment of number 7, and the proof that a "same" answer leaves.
 
+mod cases;
+
 use twin::calls::{judge, Answer, Asked, Call};
 use twin::cards::{read_card, Refusal};
 use twin::lines::read_call;
@@ -84,12 +86,11 @@ fn assert_sets(store: &[u8]) {
     }
 }
 
-/// The 1,700 calls of `cases`, and some random ones.
+/// The calls of `cases`, and some random ones.
 fn all_calls() -> impl Iterator<Item = Call> {
-    let cases = std::fs::read_to_string(concat!(env!("CARGO_MANIFEST_DIR"), "/../crates/cases/stdin")).unwrap();
-    let cases: Vec<Call> = cases.lines().map(|line| read_call(line.as_bytes()).unwrap()).collect();
+    let cases = cases::calls().into_iter().map(|(line, _)| read_call(line.as_bytes()).unwrap());
     let random = (0..3_000).filter_map(|number| read_call(make::line(4, number).as_bytes()));
-    cases.into_iter().chain(random)
+    cases.chain(random)
 }
 
 #[test]

@@ -1,7 +1,7 @@
 -- A value for each record of a list, in order: each record's from the values of the records before it. A child's number is lower than
 -- its parent's, so a record's value can be made from its children's.
 use mathlib.Core.List.{List, [], _∷_, _++_}
-use Rattle.cards.specs.declared.record.Record.{Record}
+use Rattle.records.specs.declared.record.Record.{Record}
 
 module _ {A : Type 0} (value : List A → Record → A) where
   -- The values before, and then those of these records.

@@ -1,23 +1,16 @@
 -- The letters of a card, ascending, each once: those in a letter record, whether anything reaches it or not.
 -- Document 01: "Letters tried, ascending: those in a letter record of either pattern card."
 use Prim.Native.Nat.{ℕ, zero, suc}
-use mathlib.Core.Bool.{Bool, false, cond, _||_}
+use mathlib.Core.Bool.{Bool, false, cond, _&&_, _||_}
 use mathlib.Core.List.{List, [], _∷_, _++_}
 use lib.Dec.{eqb}
-use Rattle.cards.specs.declared.kind.Kind.{Kind}
-use Rattle.cards.specs.declared.kind.Kind.the-variants.{Nothing, EmptyWord, Letter, Choice, Sequence, Repeat, Unknown}
-use Rattle.cards.specs.declared.record.Record.{Record}
-use Rattle.cards.specs.Kind.{kind-of}
+use Rattle.records.specs.declared.kind.Kind.{Kind}
+use Rattle.records.specs.declared.record.Record.{Record}
+use Rattle.records.specs.Kind.{kind-of, columns}
 
--- A record of this kind with this letter is a letter record of c.
+-- A record of this kind with this letter is a letter record of c: its kind has a letter, and it is c.
 abbrev pub letter-of : Kind → ℕ → ℕ → Bool
-letter-of Nothing l c = false
-letter-of EmptyWord l c = false
-letter-of Letter l c = eqb l c
-letter-of Choice l c = false
-letter-of Sequence l c = false
-letter-of Repeat l c = false
-letter-of Unknown l c = false
+letter-of kind letter c = columns kind .letter && eqb letter c
 
 -- Some letter record has the letter c.
 unfoldable pub mentions : List Record → ℕ → Bool

@@ -4,12 +4,12 @@ use Prim.Native.Nat.{ℕ, _-_}
 use mathlib.Core.List.{List}
 use lib.ListN.{length, getD}
 use Rattle.language.specs.Language.{Pattern, nothing, empty-word, letter, choice, sequence, repeat}
-use Rattle.cards.specs.declared.kind.Kind.{Kind}
-use Rattle.cards.specs.declared.kind.Kind.the-variants.{Nothing, EmptyWord, Letter, Choice, Sequence, Repeat, Unknown}
-use Rattle.cards.specs.declared.record.Record.{Record}
+use Rattle.records.specs.declared.kind.Kind.{Kind}
+use Rattle.records.specs.declared.kind.Kind.the-variants.{Nothing, EmptyWord, Letter, Choice, Sequence, Repeat, Unknown}
+use Rattle.records.specs.declared.record.Record.{Record}
 use Rattle.cards.specs.InOrder.{in-order}
-use Rattle.cards.specs.Record.{records}
-use Rattle.cards.specs.Kind.{kind-of}
+use Rattle.records.specs.Record.{records}
+use Rattle.records.specs.Kind.{kind-of}
 
 -- The operator of a kind, over a letter and the children's patterns.
 abbrev pub operator : Kind → ℕ → Pattern → Pattern → Pattern

@@ -1,27 +1,24 @@
 // Examining a card: refusals 1, 2 and 3, for any bytes.
-use crate::kind::Kind;
-use crate::kind::named;
-use crate::record::RECORD;
-use crate::record::Record;
-use crate::record::read;
+use records::kind::Columns;
+use records::kind::Kind;
+use records::kind::columns_of;
+use records::kind::named;
+use records::record::RECORD;
+use records::record::Record;
+use records::record::read;
+use refusals::Standing;
+use refusals::limits::MOST_PATTERN_RECORDS;
+use refusals::limits::MOST_PROOF_RECORDS;
+use refusals::numbers::BROKEN_RECORD;
+use refusals::numbers::CARD_LENGTH;
+use refusals::numbers::WRONG_MARK;
 ghost use mathlib.Core.Path.{_≡_};
 ghost use Prim.Native.Nat.{_+_, _*_, _≤_};
 ghost use lib.Dec.{eqb};
 ghost use lib.ListN.{length};
-ghost use Rattle.cards.specs.Record.{records, child, record-at};
+ghost use Rattle.records.specs.Record.{records, child, record-at};
 ghost use Rattle.cards.specs.Mark.{bit, marked, has-empty};
-ghost use Rattle.cards.specs.Examine.{wrong-length, obeys-line, obeys, mark-right, record-standing, examined, pattern-card, proof-card};
-
-// The largest number of records in a pattern card, and in a proof card.
-pub const MOST_PATTERN_RECORDS: usize = 512;
-
-pub const MOST_PROOF_RECORDS: usize = 4096;
-
-// A card is in good standing, or refused by the paper's number.
-pub enum Standing {
-    Good,
-    Refused(u8),
-}
+ghost use Rattle.cards.specs.Examine.{wrong-length, letter-field, child-field, obeys-line, obeys, mark-right, record-standing, examined, pattern-card, proof-card};
 
 // A pattern card.
 pub fn examine_pattern(card: &[u8]) -> Standing
@@ -42,7 +39,7 @@ pub fn examine(card: &[u8], most: usize) -> Standing
     ensures { λ r. ⌜ r ≡ examined most (now (card .entry)) ⌝ }
 {
     if wrong_length(card.len(), most) {
-        return Standing::Refused(1);
+        return Standing::Refused(CARD_LENGTH);
     }
     let count = card.len() / RECORD;
     let mut at = 0;
@@ -70,10 +67,10 @@ fn examine_record(card: &[u8], at: usize) -> Standing
 {
     let r = read(card, at);
     if !obeys(at, r) {
-        return Standing::Refused(2);
+        return Standing::Refused(BROKEN_RECORD);
     }
     if !mark_right(card, r) {
-        return Standing::Refused(3);
+        return Standing::Refused(WRONG_MARK);
     }
     Standing::Good
 }
@@ -82,21 +79,34 @@ fn examine_record(card: &[u8], at: usize) -> Standing
 fn obeys(at: usize, r: Record) -> bool
     ensures { λ t. ⌜ t ≡ obeys at r ⌝ }
 {
-    (r.fourth == 0) & obeys_line(named(r.kind), at, r)
+    (r.fourth == 0) & obeys_line(columns_of(named(r.kind)), at, r)
 }
 
-// The kind table, for the record numbered `at`.
-fn obeys_line(kind: Kind, at: usize, r: Record) -> bool
-    ensures { λ t. ⌜ t ≡ obeys-line kind at r ⌝ }
+// A line of the kind table, for the record numbered `at`.
+fn obeys_line(line: Columns, at: usize, r: Record) -> bool
+    ensures { λ t. ⌜ t ≡ obeys-line line at r ⌝ }
 {
-    match kind {
-        Kind::Nothing => (r.letter == 0) & (r.left == 0) & (r.right == 0),
-        Kind::EmptyWord => (r.letter == 0) & (r.left == 0) & (r.right == 0),
-        Kind::Letter => (r.left == 0) & (r.right == 0),
-        Kind::Choice => (r.letter == 0) & ((r.left as usize) < at) & ((r.right as usize) < at),
-        Kind::Sequence => (r.letter == 0) & ((r.left as usize) < at) & ((r.right as usize) < at),
-        Kind::Repeat => (r.letter == 0) & ((r.left as usize) < at) & (r.right == 0),
-        Kind::Unknown => false,
+    line.known
+        & letter_field(line.letter, r.letter)
+        & child_field(line.left, at, r.left)
+        & child_field(line.right, at, r.right)
+}
+
+// A letter that may be any byte, and else has to be 0.
+fn letter_field(any: bool, letter: u8) -> bool
+    ensures { λ t. ⌜ t ≡ letter-field any letter ⌝ }
+{
+    any | (letter == 0)
+}
+
+// A field that has to name a child, whose number is lower than `at`, and else has to be 0.
+fn child_field(child: bool, at: usize, field: u16) -> bool
+    ensures { λ t. ⌜ t ≡ child-field child at field ⌝ }
+{
+    if child {
+        (field as usize) < at
+    } else {
+        field == 0
     }
 }
 

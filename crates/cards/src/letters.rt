@@ -1,10 +1,11 @@
 // The letters of a card.
-use crate::kind::Kind;
-use crate::kind::named;
-use crate::record::RECORD;
-use crate::record::read;
+use records::kind::Kind;
+use records::kind::columns_of;
+use records::kind::named;
+use records::record::RECORD;
+use records::record::read;
 ghost use mathlib.Core.Path.{_≡_};
-ghost use Rattle.cards.specs.Record.{records};
+ghost use Rattle.records.specs.Record.{records};
 ghost use Rattle.cards.specs.Letters.{letter-of, mentions};
 
 // Whether some letter record of the card has the letter.
@@ -23,17 +24,10 @@ pub fn mentions(card: &[u8], letter: u8) -> bool
     false
 }
 
-// Whether a record of this kind with this letter is a letter record of `letter`.
+// Whether a record of this kind with this letter is a letter record of `letter`: its kind has a letter, and it is this one.
 fn letter_of(kind: Kind, own: u8, letter: u8) -> bool
     ensures { λ t. ⌜ t ≡ letter-of kind own letter ⌝ }
 {
-    match kind {
-        Kind::Nothing => false,
-        Kind::EmptyWord => false,
-        Kind::Letter => own == letter,
-        Kind::Choice => false,
-        Kind::Sequence => false,
-        Kind::Repeat => false,
-        Kind::Unknown => false,
-    }
+    let line = columns_of(kind);
+    line.letter & (own == letter)
 }

@@ -1,6 +1,4 @@
 // Cards: what their bytes say, and the refusals 1, 2 and 3.
 // The definitions that the contracts cite stand in specs/; specs/Lib.antt lists them.
 pub mod examine;
-pub mod kind;
 pub mod letters;
-pub mod record;

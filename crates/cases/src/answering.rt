@@ -1,6 +1,7 @@
 // Answering standard input, a line at a time.
 use crate::checking_line;
 use crate::comparing_line;
+use crate::job_line;
 use crate::matching_line;
 use lines::parts::part;
 use lines::printing::end;
@@ -27,14 +28,21 @@ pub fn answer_all() {
 // Reads the next line and answers it.
 fn answer_next(kept: &mut [u8; KEPT], chunk: &mut [u8; CHUNK], before: Reading) -> Reading {
     let reading = read_line(kept, chunk, before);
-    let length = reading.length;
     if reading.whole {
-        end(length <= LONGEST && answer(part(kept, 0, length)));
+        answer_kept(kept, reading.length);
     }
     reading
 }
 
-// Writes what the call of the line told and left, and tells whether the line is a call.
+// Answers a line of that length.
+fn answer_kept(kept: &[u8; KEPT], length: usize) {
+    end(length <= LONGEST && answer(part(kept, 0, length)));
+}
+
+// Writes the answer to a line, and tells whether the line is of some form.
 fn answer(line: &[u8]) -> bool {
-    matching_line::answer(line) || comparing_line::answer(line) || checking_line::answer(line)
+    matching_line::answer(line)
+        || comparing_line::answer(line)
+        || checking_line::answer(line)
+        || job_line::answer(line)
 }

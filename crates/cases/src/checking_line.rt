@@ -1,131 +1,113 @@
 // A line that calls `judge::check`.
-use crate::cursor::NOWHERE;
-use crate::cursor::ends;
-use crate::cursor::past;
-use crate::hex::byte_of;
-use crate::hex::bytes_if_any;
-use crate::hex::bytes_of;
-use crate::number::budget_of;
-use crate::number::size_of;
-use crate::printing::byte;
-use crate::printing::number;
+use crate::printing::Counts;
+use crate::printing::said;
+use crate::printing::said_refused;
+use crate::printing::touched;
 use crate::printing::work;
-use crate::rooms::LARGEST_ROOM;
-use crate::rooms::lay;
-use judge::Checked;
+use answers::Checked;
 use judge::check;
-use lines::hex::SPELLED;
-use lines::parts::part;
-use lines::printing::text;
+use lines::form::LARGEST_ROOM;
+use lines::form::SPELLED;
+use lines::form::VALUES;
+use lines::form::begins;
+use lines::form::budget_of;
+use lines::form::bytes_of;
+use lines::form::number_of;
+use lines::form::read;
+use lines::printing::byte;
+use lines::printing::number;
+use lines::rooms::as_lent;
+use lines::rooms::lay;
+use lines::rooms::taken;
 
-// What the line says. The bytes of the cards, of the list and of the earlier store stand one behind the other, up to these ends.
-struct Call {
-    good: bool,
-    left: usize,
-    right: usize,
-    proof: usize,
-    list: usize,
-    was: usize,
-    work: usize,
-    fill: u8,
-    budget: u32,
-}
+// The line's keys.
+const LEFT: usize = 0;
+
+const RIGHT: usize = 1;
+
+const PROOF: usize = 2;
+
+const LIST: usize = 3;
+
+const WORK: usize = 4;
+
+const FILL: usize = 5;
+
+const WAS: usize = 6;
+
+const BUDGET: usize = 7;
 
 // Answers a line that is such a call, and tells whether it is.
 pub fn answer(line: &[u8]) -> bool {
-    let begin = past(line, 0, b"check");
-    if begin == NOWHERE {
+    if !begins(line, b"check ") {
         return false;
     }
     let mut bytes = [0u8; SPELLED];
-    let call = read(line, begin, &mut bytes);
-    if call.good {
-        run(call, &bytes);
+    let mut values = [0usize; VALUES];
+    let good = read_line(line, &mut bytes, &mut values);
+    if good {
+        run(&bytes, &values);
     }
-    call.good
+    good
 }
 
-// Reads what stands behind the name of the call.
-fn read(line: &[u8], begin: usize, bytes: &mut [u8; SPELLED]) -> Call {
-    let left = bytes_of(line, begin, b" left=", bytes, 0);
-    let right = bytes_of(line, left.next, b" right=", bytes, left.end);
-    let proof = bytes_of(line, right.next, b" proof=", bytes, right.end);
-    let list = bytes_of(line, proof.next, b" list=", bytes, proof.end);
-    let work = size_of(line, list.next, b" work=");
-    let fill = byte_of(line, work.next, b" fill=");
-    let was = bytes_if_any(line, fill.next, b" was=", bytes, list.end);
-    let budget = budget_of(line, was.next, b" budget=");
-    Call {
-        good: ends(line, budget.next),
-        left: left.end,
-        right: right.end,
-        proof: proof.end,
-        list: list.end,
-        was: was.end,
-        work: work.value,
-        fill: fill.value,
-        budget: budget.value,
-    }
+// Reads the line, and tells whether it is of the form.
+fn read_line(line: &[u8], bytes: &mut [u8; SPELLED], values: &mut [usize; VALUES]) -> bool {
+    let form = b"check left=* right=* proof=* list=* work=# fill=% was=? budget=$";
+    read(line, form, bytes, values)
 }
 
 // Lends the room.
-fn run(call: Call, bytes: &[u8; SPELLED]) {
-    let fill = call.fill;
-    let size = call.work;
+fn run<'a>(bytes: &'a [u8; SPELLED], values: &'a [usize; VALUES]) {
     let mut space = [0u8; LARGEST_ROOM];
+    let size = number_of(values, WORK);
     if size <= LARGEST_ROOM {
-        let left = part(bytes, 0, call.left);
-        let right = part(bytes, call.left, call.right);
-        let proof = part(bytes, call.right, call.proof);
-        let list = part(bytes, call.proof, call.list);
-        let was = part(bytes, call.list, call.was);
-        run_in(
-            &mut space[0..size],
-            fill,
-            was,
-            left,
-            right,
-            proof,
-            list,
-            call.budget,
-        );
+        run_in(&mut space[0..size], bytes, values);
     }
 }
 
-// Makes the call, and writes what it told and left.
-fn run_in(
-    room: &mut [u8],
-    fill: u8,
-    was: &[u8],
-    left: &[u8],
-    right: &[u8],
-    proof: &[u8],
-    list: &[u8],
-    budget: u32,
-) {
-    lay(room, fill, was);
-    let told = check(left, right, proof, list, room, budget);
+// Makes the call in its room, and writes what it told and left.
+fn run_in<'a>(room: &mut [u8], bytes: &'a [u8; SPELLED], values: &'a [usize; VALUES]) {
+    lay(room, bytes, values, FILL, WAS);
+    let told = show(call(room, bytes, values));
+    work(room, told);
+    let written = taken(room, told.places);
+    touched(as_lent(room, written, bytes, values, FILL, WAS));
+}
+
+// Makes the call.
+fn call<'a>(room: &mut [u8], bytes: &'a [u8; SPELLED], values: &'a [usize; VALUES]) -> Checked {
+    let left = bytes_of(bytes, values, LEFT);
+    let right = bytes_of(bytes, values, RIGHT);
+    let proof = bytes_of(bytes, values, PROOF);
+    let list = bytes_of(bytes, values, LIST);
+    check(left, right, proof, list, room, budget_of(values, BUDGET))
+}
+
+// Writes the answer, and tells the counts.
+fn show(told: Checked) -> Counts {
     match told {
-        Checked::Accepted(places, visits) => {
-            text(b"answer=accepted");
-            work(room, fill, was, places, visits);
-        }
+        Checked::Accepted(places, visits) => said(b"answer=accepted", places, visits),
         Checked::OpeningMissing(places, visits) => {
-            text(b"answer=rejected at=opening");
-            work(room, fill, was, places, visits);
+            said(b"answer=rejected at=opening", places, visits)
         }
-        Checked::MarksDiffer(pair, places, visits) => {
-            number(b"answer=rejected at=", pair as u64);
-            work(room, fill, was, places, visits);
-        }
+        Checked::MarksDiffer(pair, places, visits) => rejected(pair, places, visits),
         Checked::NotListed(pair, letter, places, visits) => {
-            number(b"answer=rejected at=", pair as u64);
-            byte(b" letter=", letter);
-            work(room, fill, was, places, visits);
+            rejected_at(pair, letter, places, visits)
         }
-        Checked::Refused(reason, places, visits) => {
-            number(b"answer=refused reason=", reason as u64);
-            work(room, fill, was, places, visits);
-        }
+        Checked::Refused(reason, places, visits) => said_refused(reason, places, visits),
     }
+}
+
+// Writes that a pair's marks differ.
+fn rejected(pair: usize, places: usize, visits: u32) -> Counts {
+    number(b"answer=rejected at=", pair as u64);
+    Counts { places, visits }
+}
+
+// Writes that a pair leads by a letter to one that is not listed.
+fn rejected_at(pair: usize, letter: u8, places: usize, visits: u32) -> Counts {
+    number(b"answer=rejected at=", pair as u64);
+    byte(b" letter=", letter);
+    Counts { places, visits }
 }

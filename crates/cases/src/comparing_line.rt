@@ -1,148 +1,44 @@
 // A line that calls `judge::compare`.
-use crate::cursor::NOWHERE;
-use crate::cursor::ends;
-use crate::cursor::past;
-use crate::hex::byte_of;
-use crate::hex::bytes_if_any;
-use crate::hex::bytes_of;
-use crate::number::budget_of;
-use crate::number::size_of;
-use crate::printing::bytes as show_bytes;
-use crate::printing::counts;
 use crate::printing::laid;
-use crate::printing::number;
-use crate::rooms::LARGEST_ROOM;
-use crate::rooms::as_lent;
-use crate::rooms::lay;
-use crate::rooms::left_as_lent;
-use judge::Comparison;
+use crate::printing::refused;
+use crate::printing::show_counts;
+use crate::printing::touched;
+use answers::Comparison;
 use judge::compare;
-use lines::hex::SPELLED;
+use lines::form::LARGEST_ROOM;
+use lines::form::SPELLED;
+use lines::form::VALUES;
+use lines::form::begins;
+use lines::form::budget_of;
+use lines::form::bytes_of;
+use lines::form::number_of;
+use lines::form::read;
 use lines::parts::part;
-use lines::printing::text;
+use lines::printing::bytes as show_bytes;
+use lines::printing::number;
+use lines::printing::words;
+use lines::rooms::as_lent;
+use lines::rooms::lay;
+use lines::rooms::taken;
 
-// What the line says. The bytes of the cards and of the earlier store and table stand one behind the other, up to these ends.
-struct Call {
-    good: bool,
-    left: usize,
-    right: usize,
-    was: usize,
-    had: usize,
-    work: usize,
-    pairs: usize,
-    word: usize,
-    fill: u8,
-    budget: u32,
-}
+// The line's keys. The word room begins with nothing of an earlier call, and its own key has no bytes.
+const LEFT: usize = 0;
 
-// Answers a line that is such a call, and tells whether it is.
-pub fn answer(line: &[u8]) -> bool {
-    let begin = past(line, 0, b"compare");
-    if begin == NOWHERE {
-        return false;
-    }
-    let mut bytes = [0u8; SPELLED];
-    let call = read(line, begin, &mut bytes);
-    if call.good {
-        run(call, &bytes);
-    }
-    call.good
-}
+const RIGHT: usize = 1;
 
-// Reads what stands behind the name of the call.
-fn read(line: &[u8], begin: usize, bytes: &mut [u8; SPELLED]) -> Call {
-    let left = bytes_of(line, begin, b" left=", bytes, 0);
-    let right = bytes_of(line, left.next, b" right=", bytes, left.end);
-    let work = size_of(line, right.next, b" work=");
-    let pairs = size_of(line, work.next, b" pairs=");
-    let word = size_of(line, pairs.next, b" word=");
-    let fill = byte_of(line, word.next, b" fill=");
-    let was = bytes_if_any(line, fill.next, b" was=", bytes, right.end);
-    let had = bytes_if_any(line, was.next, b" had=", bytes, was.end);
-    let budget = budget_of(line, had.next, b" budget=");
-    Call {
-        good: ends(line, budget.next),
-        left: left.end,
-        right: right.end,
-        was: was.end,
-        had: had.end,
-        work: work.value,
-        pairs: pairs.value,
-        word: word.value,
-        fill: fill.value,
-        budget: budget.value,
-    }
-}
+const WORK: usize = 2;
 
-// Lends the rooms.
-fn run(call: Call, bytes: &[u8; SPELLED]) {
-    let fill = call.fill;
-    let mut work = [0u8; LARGEST_ROOM];
-    let mut pairs = [0u8; LARGEST_ROOM];
-    let mut word = [0u8; LARGEST_ROOM];
-    let work_size = call.work;
-    let pairs_size = call.pairs;
-    let word_size = call.word;
-    if work_size <= LARGEST_ROOM && pairs_size <= LARGEST_ROOM && word_size <= LARGEST_ROOM {
-        let left = part(bytes, 0, call.left);
-        let right = part(bytes, call.left, call.right);
-        let was = part(bytes, call.right, call.was);
-        let had = part(bytes, call.was, call.had);
-        run_in(
-            &mut work[0..work_size],
-            &mut pairs[0..pairs_size],
-            &mut word[0..word_size],
-            fill,
-            was,
-            had,
-            left,
-            right,
-            call.budget,
-        );
-    }
-}
+const PAIRS: usize = 3;
 
-// Makes the call in its rooms.
-fn run_in(
-    work: &mut [u8],
-    pairs: &mut [u8],
-    word: &mut [u8],
-    fill: u8,
-    was: &[u8],
-    had: &[u8],
-    left: &[u8],
-    right: &[u8],
-    budget: u32,
-) {
-    lay(work, fill, was);
-    lay(pairs, fill, had);
-    lay(word, fill, b"");
-    let told = compare(left, right, work, pairs, word, budget);
-    show(told, work, pairs, word, fill, was, had);
-}
+const WORD: usize = 4;
 
-// Writes what the call told and left.
-fn show(
-    told: Comparison,
-    work: &[u8],
-    pairs: &[u8],
-    word: &[u8],
-    fill: u8,
-    was: &[u8],
-    had: &[u8],
-) {
-    let shown = answered(told, word);
-    number(b" pairs=", shown.pairs as u64);
-    counts(shown.places, shown.visits);
-    laid(b" work=", work, shown.places);
-    laid(b" table=", pairs, shown.pairs);
-    if !left_as_lent(work, shown.places, fill, was)
-        || !left_as_lent(pairs, shown.pairs, fill, had)
-        || !as_lent(word, shown.written, fill, b"")
-    {
-        text(b" touched");
-    }
-}
+const FILL: usize = 5;
+
+const WAS: usize = 6;
+
+const HAD: usize = 7;
+
+const BUDGET: usize = 8;
 
 // What was told of the rooms: the pairs, the places and the visits, and the bytes written to the word room.
 struct Left {
@@ -152,21 +48,94 @@ struct Left {
     written: usize,
 }
 
-// Writes the answer with its reason or its word.
-fn answered(told: Comparison, word: &[u8]) -> Left {
+// Answers a line that is such a call, and tells whether it is.
+pub fn answer(line: &[u8]) -> bool {
+    if !begins(line, b"compare ") {
+        return false;
+    }
+    let mut bytes = [0u8; SPELLED];
+    let mut values = [0usize; VALUES];
+    let good = read_line(line, &mut bytes, &mut values);
+    if good {
+        run(&bytes, &values);
+    }
+    good
+}
+
+// Reads the line, and tells whether it is of the form.
+fn read_line(line: &[u8], bytes: &mut [u8; SPELLED], values: &mut [usize; VALUES]) -> bool {
+    let form = b"compare left=* right=* work=# pairs=# word=# fill=% was=? had=? budget=$";
+    read(line, form, bytes, values)
+}
+
+// Lends the work room.
+fn run<'a>(bytes: &'a [u8; SPELLED], values: &'a [usize; VALUES]) {
+    let mut space = [0u8; LARGEST_ROOM];
+    let size = number_of(values, WORK);
+    if size <= LARGEST_ROOM {
+        with_work(&mut space[0..size], bytes, values);
+    }
+}
+
+// Lays the work room, and lends the pair room.
+fn with_work<'a>(work: &mut [u8], bytes: &'a [u8; SPELLED], values: &'a [usize; VALUES]) {
+    lay(work, bytes, values, FILL, WAS);
+    let mut space = [0u8; LARGEST_ROOM];
+    let size = number_of(values, PAIRS);
+    if size <= LARGEST_ROOM {
+        with_pairs(work, &mut space[0..size], bytes, values);
+    }
+}
+
+// Lays the pair room, and lends the word room.
+fn with_pairs<'a>(
+    work: &mut [u8],
+    pairs: &mut [u8],
+    bytes: &'a [u8; SPELLED],
+    values: &'a [usize; VALUES],
+) {
+    lay(pairs, bytes, values, FILL, HAD);
+    let mut space = [0u8; LARGEST_ROOM];
+    let size = number_of(values, WORD);
+    if size <= LARGEST_ROOM {
+        run_in(work, pairs, &mut space[0..size], bytes, values);
+    }
+}
+
+// Lays the word room, makes the call, and writes what it told and left.
+fn run_in<'a>(
+    work: &mut [u8],
+    pairs: &mut [u8],
+    word: &mut [u8],
+    bytes: &'a [u8; SPELLED],
+    values: &'a [usize; VALUES],
+) {
+    lay(word, bytes, values, FILL, WORD);
+    let told = call(work, pairs, word, bytes, values);
+    let left = show(told, word);
+    show_left(left, work, pairs);
+    touched(all_as_lent(left, work, pairs, word, bytes, values));
+}
+
+// Makes the call.
+fn call<'a>(
+    work: &mut [u8],
+    pairs: &mut [u8],
+    word: &mut [u8],
+    bytes: &'a [u8; SPELLED],
+    values: &'a [usize; VALUES],
+) -> Comparison {
+    let left = bytes_of(bytes, values, LEFT);
+    let right = bytes_of(bytes, values, RIGHT);
+    compare(left, right, work, pairs, word, budget_of(values, BUDGET))
+}
+
+// Writes the answer with its reason or its word, and tells what was told of the rooms.
+fn show(told: Comparison, word: &[u8]) -> Left {
     match told {
-        Comparison::Same(pairs, places, visits) => {
-            text(b"answer=same");
-            Left {
-                pairs,
-                places,
-                visits,
-                written: 0,
-            }
-        }
+        Comparison::Same(pairs, places, visits) => same(pairs, places, visits),
         Comparison::Different(length, left_has, pairs, places, visits) => {
-            show_bytes(b"answer=different word=", part(word, 0, length));
-            show_side(left_has);
+            different(part(word, 0, length), left_has);
             Left {
                 pairs,
                 places,
@@ -175,31 +144,60 @@ fn answered(told: Comparison, word: &[u8]) -> Left {
             }
         }
         Comparison::Refused(reason, pairs, places, visits) => {
-            number(b"answer=refused reason=", reason as u64);
-            Left {
-                pairs,
-                places,
-                visits,
-                written: 0,
-            }
+            refused(reason);
+            nothing_written(pairs, places, visits)
         }
         Comparison::WordRoomShort(length, pairs, places, visits) => {
             number(b"answer=refused reason=10 length=", length as u64);
-            Left {
-                pairs,
-                places,
-                visits,
-                written: 0,
-            }
+            nothing_written(pairs, places, visits)
         }
     }
 }
 
-// Writes which side has the word.
-fn show_side(left_has: bool) {
+// Writes that both allow the same words.
+fn same(pairs: usize, places: usize, visits: u32) -> Left {
+    words(b"answer=same");
+    nothing_written(pairs, places, visits)
+}
+
+// Writes a difference: its word, and which side has it.
+fn different(word: &[u8], left_has: bool) {
+    show_bytes(b"answer=different word=", word);
     if left_has {
-        text(b" only=left");
+        words(b" only=left");
     } else {
-        text(b" only=right");
+        words(b" only=right");
     }
+}
+
+// The word room is as lent.
+fn nothing_written(pairs: usize, places: usize, visits: u32) -> Left {
+    Left {
+        pairs,
+        places,
+        visits,
+        written: 0,
+    }
+}
+
+// Writes the counts, and the bytes of the places and of the pairs.
+fn show_left(left: Left, work: &[u8], pairs: &[u8]) {
+    number(b" pairs=", left.pairs as u64);
+    show_counts(left.places, left.visits);
+    laid(b" work=", work, left.places);
+    laid(b" table=", pairs, left.pairs);
+}
+
+// Whether every byte behind those, and behind the word, is as it was lent.
+fn all_as_lent<'a>(
+    left: Left,
+    work: &[u8],
+    pairs: &[u8],
+    word: &[u8],
+    bytes: &'a [u8; SPELLED],
+    values: &'a [usize; VALUES],
+) -> bool {
+    as_lent(work, taken(work, left.places), bytes, values, FILL, WAS)
+        && as_lent(pairs, taken(pairs, left.pairs), bytes, values, FILL, HAD)
+        && as_lent(word, left.written, bytes, values, FILL, WORD)
 }

@@ -1,95 +1,86 @@
 // A line that calls `judge::fits`.
-use crate::cursor::NOWHERE;
-use crate::cursor::ends;
-use crate::cursor::past;
-use crate::hex::byte_of;
-use crate::hex::bytes_if_any;
-use crate::hex::bytes_of;
-use crate::number::budget_of;
-use crate::number::size_of;
-use crate::printing::number;
+use crate::printing::Counts;
+use crate::printing::said;
+use crate::printing::said_refused;
+use crate::printing::touched;
 use crate::printing::work;
-use crate::rooms::LARGEST_ROOM;
-use crate::rooms::lay;
-use judge::Match;
+use answers::Match;
 use judge::fits;
-use lines::hex::SPELLED;
-use lines::parts::part;
-use lines::printing::text;
+use lines::form::LARGEST_ROOM;
+use lines::form::SPELLED;
+use lines::form::VALUES;
+use lines::form::begins;
+use lines::form::budget_of;
+use lines::form::bytes_of;
+use lines::form::number_of;
+use lines::form::read;
+use lines::rooms::as_lent;
+use lines::rooms::lay;
+use lines::rooms::taken;
 
-// What the line says. The bytes of the card, of the word and of the earlier store stand one behind the other, up to these ends.
-struct Call {
-    good: bool,
-    card: usize,
-    word: usize,
-    was: usize,
-    work: usize,
-    fill: u8,
-    budget: u32,
-}
+// The line's keys.
+const CARD: usize = 0;
+
+const WORD: usize = 1;
+
+const WORK: usize = 2;
+
+const FILL: usize = 3;
+
+const WAS: usize = 4;
+
+const BUDGET: usize = 5;
 
 // Answers a line that is such a call, and tells whether it is.
 pub fn answer(line: &[u8]) -> bool {
-    let begin = past(line, 0, b"match");
-    if begin == NOWHERE {
+    if !begins(line, b"match ") {
         return false;
     }
     let mut bytes = [0u8; SPELLED];
-    let call = read(line, begin, &mut bytes);
-    if call.good {
-        run(call, &bytes);
+    let mut values = [0usize; VALUES];
+    let good = read_line(line, &mut bytes, &mut values);
+    if good {
+        run(&bytes, &values);
     }
-    call.good
+    good
 }
 
-// Reads what stands behind the name of the call.
-fn read(line: &[u8], begin: usize, bytes: &mut [u8; SPELLED]) -> Call {
-    let card = bytes_of(line, begin, b" card=", bytes, 0);
-    let word = bytes_of(line, card.next, b" word=", bytes, card.end);
-    let work = size_of(line, word.next, b" work=");
-    let fill = byte_of(line, work.next, b" fill=");
-    let was = bytes_if_any(line, fill.next, b" was=", bytes, word.end);
-    let budget = budget_of(line, was.next, b" budget=");
-    Call {
-        good: ends(line, budget.next),
-        card: card.end,
-        word: word.end,
-        was: was.end,
-        work: work.value,
-        fill: fill.value,
-        budget: budget.value,
-    }
+// Reads the line, and tells whether it is of the form.
+fn read_line(line: &[u8], bytes: &mut [u8; SPELLED], values: &mut [usize; VALUES]) -> bool {
+    let form = b"match card=* word=* work=# fill=% was=? budget=$";
+    read(line, form, bytes, values)
 }
 
 // Lends the room.
-fn run(call: Call, bytes: &[u8; SPELLED]) {
-    let fill = call.fill;
-    let size = call.work;
+fn run<'a>(bytes: &'a [u8; SPELLED], values: &'a [usize; VALUES]) {
     let mut space = [0u8; LARGEST_ROOM];
+    let size = number_of(values, WORK);
     if size <= LARGEST_ROOM {
-        let card = part(bytes, 0, call.card);
-        let word = part(bytes, call.card, call.word);
-        let was = part(bytes, call.word, call.was);
-        run_in(&mut space[0..size], fill, was, card, word, call.budget);
+        run_in(&mut space[0..size], bytes, values);
     }
 }
 
-// Makes the call, and writes what it told and left.
-fn run_in(room: &mut [u8], fill: u8, was: &[u8], card: &[u8], word: &[u8], budget: u32) {
-    lay(room, fill, was);
-    let told = fits(card, word, room, budget);
+// Makes the call in its room, and writes what it told and left.
+fn run_in<'a>(room: &mut [u8], bytes: &'a [u8; SPELLED], values: &'a [usize; VALUES]) {
+    lay(room, bytes, values, FILL, WAS);
+    let told = show(call(room, bytes, values));
+    work(room, told);
+    let written = taken(room, told.places);
+    touched(as_lent(room, written, bytes, values, FILL, WAS));
+}
+
+// Makes the call.
+fn call<'a>(room: &mut [u8], bytes: &'a [u8; SPELLED], values: &'a [usize; VALUES]) -> Match {
+    let card = bytes_of(bytes, values, CARD);
+    let word = bytes_of(bytes, values, WORD);
+    fits(card, word, room, budget_of(values, BUDGET))
+}
+
+// Writes the answer, and tells the counts.
+fn show(told: Match) -> Counts {
     match told {
-        Match::Yes(places, visits) => {
-            text(b"answer=yes");
-            work(room, fill, was, places, visits);
-        }
-        Match::No(places, visits) => {
-            text(b"answer=no");
-            work(room, fill, was, places, visits);
-        }
-        Match::Refused(reason, places, visits) => {
-            number(b"answer=refused reason=", reason as u64);
-            work(room, fill, was, places, visits);
-        }
+        Match::Yes(places, visits) => said(b"answer=yes", places, visits),
+        Match::No(places, visits) => said(b"answer=no", places, visits),
+        Match::Refused(reason, places, visits) => said_refused(reason, places, visits),
     }
 }

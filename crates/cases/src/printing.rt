@@ -1,31 +1,23 @@
 // Writing an answer to standard output, piece by piece.
-use crate::rooms::left_as_lent;
-use crate::rooms::taken;
-use libc::STDOUT_FILENO;
 use lines::parts::part;
-use lines::printing::hex;
-use lines::printing::text;
-
-// A key and its number.
-pub fn number(key: &[u8], value: u64) {
-    text(key);
-    io::print_decimal(STDOUT_FILENO, value);
-}
-
-// A key and its bytes, as lower-case hexadecimal digits.
-pub fn bytes(key: &[u8], shown: &[u8]) {
-    text(key);
-    hex(shown);
-}
-
-// A key and its one byte.
-pub fn byte(key: &[u8], shown: u8) {
-    let one = [shown; 1];
-    bytes(key, &one);
-}
+use lines::printing::bytes;
+use lines::printing::number;
+use lines::printing::words;
+use lines::rooms::taken;
 
 // The places taken and the visits made.
-pub fn counts(places: usize, visits: u32) {
+pub struct Counts {
+    pub places: usize,
+    pub visits: u32,
+}
+
+// A refusal.
+pub fn refused(reason: u8) {
+    number(b"answer=refused reason=", reason as u64);
+}
+
+// The counts.
+pub fn show_counts(places: usize, visits: u32) {
     number(b" places=", places as u64);
     number(b" visits=", visits as u64);
 }
@@ -35,11 +27,27 @@ pub fn laid(key: &[u8], room: &[u8], count: usize) {
     bytes(key, part(room, 0, taken(room, count)));
 }
 
-// What a call that has a work room alone told of its counts and left in that room.
-pub fn work(room: &[u8], fill: u8, was: &[u8], places: usize, visits: u32) {
-    counts(places, visits);
-    laid(b" work=", room, places);
-    if !left_as_lent(room, places, fill, was) {
-        text(b" touched");
+// Says where a byte that is not to be written is not as it was lent.
+pub fn touched(as_lent: bool) {
+    if !as_lent {
+        words(b" touched");
     }
+}
+
+// An answer with its counts, which are handed on.
+pub fn said(answer: &[u8], places: usize, visits: u32) -> Counts {
+    words(answer);
+    Counts { places, visits }
+}
+
+// A refusal with its counts, which are handed on.
+pub fn said_refused(reason: u8, places: usize, visits: u32) -> Counts {
+    refused(reason);
+    Counts { places, visits }
+}
+
+// The counts of a call that has a work room alone, and the bytes of its places.
+pub fn work(room: &[u8], told: Counts) {
+    show_counts(told.places, told.visits);
+    laid(b" work=", room, told.places);
 }

@@ -4,12 +4,12 @@
 use Prim.Native.Nat.{ℕ, suc, _+_, _-_, _/_}
 use mathlib.Core.Bool.{true, false, Bool·beq}
 use mathlib.Core.List.{List, [], _∷_}
-use Rattle.cards.specs.declared.record.Record.{Record}
-use Rattle.cards.specs.declared.examine.Standing.{Standing}
-use Rattle.cards.specs.declared.examine.Standing.the-variants.{Good, Refused}
-use Rattle.cards.specs.Record.{records, child}
+use Rattle.records.specs.declared.record.Record.{Record}
+use Rattle.refusals.specs.declared.Standing.{Standing}
+use Rattle.refusals.specs.declared.Standing.the-variants.{Good, Refused}
+use Rattle.records.specs.Record.{records, child}
 use Rattle.cards.specs.Mark.{marked}
-use Rattle.store.specs.Loading.{Loading, loaded, no-room, load}
+use Rattle.loading.specs.Loading.{Loading, loaded, no-room, load}
 use Rattle.derivative.specs.Derivative.{derived, stopped, derive}
 use Rattle.derivative.specs.Visits.{visits}
 use Rattle.pairs.specs.declared.pair.Pair.{Pair}

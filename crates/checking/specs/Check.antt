@@ -4,18 +4,13 @@
 use Prim.Native.Nat.{ℕ, suc}
 use mathlib.Core.Bool.{true, false, Bool·beq}
 use mathlib.Core.List.{List, [], _∷_}
-use Rattle.cards.specs.declared.record.Record.{Record}
-use Rattle.cards.specs.Record.{child}
+use Rattle.answers.specs.Checking.{Point, at-opening, at-marks, at-letter}
+use Rattle.records.specs.declared.record.Record.{Record}
+use Rattle.records.specs.Record.{child}
 use Rattle.cards.specs.Mark.{marked}
 use Rattle.derivative.specs.Derivative.{derived, stopped, derive}
 use Rattle.pairs.specs.declared.pair.Pair.{Pair}
 use Rattle.pairs.specs.Pair.{stands-in}
-
--- Where a list fails: at the opening pair, at the marks of the pair numbered n, or at that pair by a letter.
-pub data Point : Type 0 where
-  at-opening : Point
-  at-marks : (n : ℕ) → Point
-  at-letter : (n letter : ℕ) → Point
 
 -- What checking comes to, with the store and the budget left.
 pub data Checking : Type 0 where

@@ -7,60 +7,49 @@ use mathlib.Core.Bool.{Bool, true, not, _&&_}
 use mathlib.Core.List.{List, [], _∷_}
 use lib.Dec.{ltb}
 use lib.ListN.{length, getD}
-use Rattle.cards.specs.declared.record.Record.{Record}
-use Rattle.cards.specs.declared.examine.Standing.{Standing}
-use Rattle.cards.specs.declared.examine.Standing.the-variants.{Good, Refused}
-use Rattle.cards.specs.Record.{records}
-use Rattle.cards.specs.Examine.{_then_, refused-if, pattern-card, proof-card}
+use Rattle.answers.specs.Checking.{Verdict, is-accepted, is-rejected, refused-by, Told}
+use Rattle.records.specs.declared.record.Record.{Record}
+use Rattle.records.specs.Record.{records}
+use Rattle.refusals.specs.declared.Standing.{Standing}
+use Rattle.refusals.specs.declared.Standing.the-variants.{Good, Refused}
+use Rattle.refusals.specs.Numbers.{work-room-size, pair-room-size, no-free-place, pair-names-no-record}
+use Rattle.refusals.specs.Order.{first-refusal, refused-if}
+use Rattle.cards.specs.Examine.{pattern-card, proof-card}
 use Rattle.store.specs.Room.{wrong-room}
-use Rattle.store.specs.Loading.{Loading, loaded, no-room, load}
+use Rattle.loading.specs.Loading.{Loading, loaded, no-room, load}
 use Rattle.pairs.specs.declared.pair.Pair.{Pair}
 use Rattle.pairs.specs.Pair.{first-pairs}
 use Rattle.pairs.specs.Room.{wrong-pair-room, listed-pairs}
 use Rattle.pairs.specs.Tried.{tried}
 use Rattle.pairs.specs.Opening.{Opening, opened, unopened, open-both}
-use Rattle.checking.specs.declared.Checked.{Checked}
-use Rattle.checking.specs.declared.Checked.the-variants.{Accepted, OpeningMissing, MarksDiffer, NotListed, Refused as RefusedCheck}
-use Rattle.checking.specs.Check.{Point, at-opening, at-marks, at-letter, Checking, accepted, rejected, cut-off, check-list}
+use Rattle.checking.specs.Check.{Checking, accepted, rejected, cut-off, check-list}
 
 -- Number 11, of a proof card of so many records: each listed pair names two of them.
 unfoldable pub all-named : ℕ → List Pair → Bool
 all-named count [] = true
 all-named count (p ∷ rest) = ltb (p .left) count && ltb (p .right) count && all-named count rest
 
--- The first refusal, of three cards, a pair list and a work room of so many bytes.
+-- The order of document 01: of three cards, a pair list and a work room of so many bytes.
+abbrev pub check-order : List ℕ → List ℕ → List ℕ → List ℕ → ℕ → List Standing
+check-order left right proof list work =
+    pattern-card left
+    ∷ pattern-card right
+    ∷ proof-card proof
+    ∷ refused-if (wrong-room work) work-room-size
+    ∷ refused-if (wrong-pair-room (length list)) pair-room-size
+    ∷ refused-if (not (all-named (length proof / 8) (listed-pairs list))) pair-names-no-record
+    ∷ []
+
+-- The first refusal of checking.
 unfoldable pub check-standing : List ℕ → List ℕ → List ℕ → List ℕ → ℕ → Standing
 unfolding pattern-card proof-card all-named first-pairs
-check-standing left right proof list work =
-    pattern-card left then pattern-card right then proof-card proof
-    then refused-if (wrong-room work) 5
-    then refused-if (wrong-pair-room (length list)) 6
-    then refused-if (not (all-named (length proof / 8) (listed-pairs list))) 11
+check-standing left right proof list work = first-refusal (check-order left right proof list work)
 
 -- The listed pairs, mapped to the places where the proof card's records were loaded.
 unfoldable pub mapped : List ℕ → List Pair → List Pair
 mapped places [] = []
 mapped places (p ∷ rest) =
     record { left = getD places (p .left) 0; right = getD places (p .right) 0; origin = p .origin; letter = p .letter } ∷ mapped places rest
-
--- What an answer says.
-pub data Verdict : Type 0 where
-  is-accepted : Verdict
-  is-rejected : (point : Point) → Verdict
-  refused-by : (number : ℕ) → Verdict
-
-pub record Told : Type 0 where
-  pub says : Verdict
-  pub places : ℕ
-  pub visits : ℕ
-
--- The paper's number and values for each case of the answer.
-abbrev pub told : Checked → Told
-told (Accepted places visits) = record { says = is-accepted; places = places; visits = visits }
-told (OpeningMissing places visits) = record { says = is-rejected at-opening; places = places; visits = visits }
-told (MarksDiffer pair places visits) = record { says = is-rejected (at-marks pair); places = places; visits = visits }
-told (NotListed pair letter places visits) = record { says = is-rejected (at-letter pair letter); places = places; visits = visits }
-told (RefusedCheck number places visits) = record { says = refused-by number; places = places; visits = visits }
 
 -- An outcome: what is told, and the store that stands in the room. Every byte behind it is as lent.
 pub record Outcome : Type 0 where
@@ -80,11 +69,11 @@ of-checking budget (cut-off number store left) = told-at (refused-by number) sto
 abbrev pub check-loaded : ℕ → List ℕ → List Pair → ℕ → ℕ → ℕ → Loading → Outcome
 check-loaded room letters list budget x y (loaded places store) =
     of-checking budget (check-list room letters (mapped places list) x y store budget)
-check-loaded room letters list budget x y (no-room store) = told-at (refused-by 7) store 0
+check-loaded room letters list budget x y (no-room store) = told-at (refused-by no-free-place) store 0
 
 abbrev pub check-opened : ℕ → List ℕ → List Record → List Pair → ℕ → Opening → Outcome
 check-opened room letters proof list budget (opened x y store) = check-loaded room letters list budget x y (load room store proof)
-check-opened room letters proof list budget (unopened store) = told-at (refused-by 7) store 0
+check-opened room letters proof list budget (unopened store) = told-at (refused-by no-free-place) store 0
 
 abbrev pub check-by : Standing → List ℕ → List ℕ → List ℕ → List ℕ → ℕ → ℕ → Outcome
 check-by (Refused number) left right proof list work budget = told-at (refused-by number) [] 0

@@ -5,15 +5,15 @@ use Prim.Native.Nat.{ℕ, _+_, _<_}
 use mathlib.Core.List.{List}
 use mathlib.Core.Path.{_≡_}
 use lib.ListN.{length}
+use Rattle.answers.specs.Checking.{Point, at-opening, at-marks, at-letter}
 use Rattle.language.specs.Word.{Listed}
-use Rattle.cards.specs.declared.record.Record.{Record}
-use Rattle.cards.specs.Record.{child}
+use Rattle.records.specs.declared.record.Record.{Record}
+use Rattle.records.specs.Record.{child}
 use Rattle.cards.specs.Mark.{marked}
 use Rattle.derivative.specs.Derivative.{derived, derive}
 use Rattle.derivative.specs.Visits.{visits}
 use Rattle.pairs.specs.declared.pair.Pair.{Pair}
 use Rattle.pairs.specs.Pair.{pair-at, StandsAt}
-use Rattle.checking.specs.Check.{Point, at-opening, at-marks, at-letter}
 
 -- Run in the store, the derivation by the letter leads from one place to the other at the cost of its visits, and adds nothing.
 abbrev pub LeadsTo : List Record → ℕ → ℕ → ℕ → Type 0

@@ -4,19 +4,19 @@ use Prim.Native.Nat.{ℕ, _/_}
 use mathlib.Core.List.{List}
 use mathlib.Core.Path.{_≡_}
 use lib.ListN.{length}
+use Rattle.answers.specs.declared.Checked.{Checked}
+use Rattle.answers.specs.Checking.{Point, Verdict, is-accepted, is-rejected, refused-by, told}
 use Rattle.language.specs.Language.{language, Equal}
-use Rattle.cards.specs.declared.record.Record.{Record}
-use Rattle.cards.specs.Record.{records}
+use Rattle.records.specs.declared.record.Record.{Record}
+use Rattle.records.specs.Record.{records}
 use Rattle.cards.specs.Meaning.{card-pattern}
 use Rattle.store.specs.Room.{laid}
-use Rattle.store.specs.Loading.{loaded, load}
+use Rattle.loading.specs.Loading.{loaded, load}
 use Rattle.pairs.specs.declared.pair.Pair.{Pair}
 use Rattle.pairs.specs.Room.{listed-pairs}
 use Rattle.pairs.specs.Tried.{tried}
 use Rattle.pairs.specs.Opening.{opened, open-both}
-use Rattle.checking.specs.declared.Checked.{Checked}
-use Rattle.checking.specs.Check.{Point}
-use Rattle.checking.specs.Outcome.{mapped, Verdict, is-accepted, is-rejected, refused-by, told, check-outcome}
+use Rattle.checking.specs.Outcome.{mapped, check-outcome}
 use Rattle.checking.specs.Point.{GoodTable, FailsAt}
 
 -- All three cards are loaded in a room of so many places: x and y are the roots of the pattern cards, and these are the listed pairs by place.

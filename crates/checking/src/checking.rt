@@ -2,12 +2,13 @@
 // ascending, for each the left derived, then the right.
 use crate::listing::mapped_pair;
 use crate::listing::stands_listed;
+use answers::Checked;
 use derivative::both::Both;
 use derivative::both::derive_both;
 use pairs::pair::PAIR;
-use store::making::marked_at;
+use store::interning::marked_at;
 ghost use mathlib.Core.List.{[], _∷_};
-ghost use Prim.Native.Nat.{_<_};
+ghost use Prim.Native.Nat.{_<_, _≤_};
 ghost use Rattle.store.specs.Room.{store-in, places-of};
 ghost use Rattle.store.specs.Good.{GoodStore};
 ghost use Rattle.pairs.specs.Pair.{pair-at};
@@ -15,20 +16,10 @@ ghost use Rattle.pairs.specs.Room.{pairs-of};
 ghost use Rattle.checking.specs.Check.{check-letters, check-pairs, check-list};
 ghost use Rattle.checking.specs.Told.{Named, MappedInside, check-pair, Goes, Ends, mapped-list};
 
-// What checking comes to, with the places taken and the budget left: accepted; or rejected, the opening pair missing, the marks of the
-// pair of this number differing, or that pair leading by this letter to none of the list; or cut off by a number.
-pub enum Checking {
-    Accepted(usize, u32),
-    OpeningMissing(usize, u32),
-    MarksDiffer(usize, usize, u32),
-    NotListed(usize, u8, usize, u32),
-    CutOff(u8, usize, u32),
-}
-
-// Passes, with the places taken and the budget left; or an end.
+// Passes, with the places taken and the budget left; or an end, the answer of the call.
 pub enum Passing {
     Passes(usize, u32),
-    Ends(Checking),
+    Ends(Checked),
 }
 
 // The list, for the opening pair of places x and y.
@@ -41,14 +32,14 @@ pub fn check_list(
     x: usize,
     y: usize,
     budget: u32,
-) -> Checking
+) -> Checked
     requires { ⌜ GoodStore (now room) places ⌝ }
     requires { ⌜ MappedInside (now list) (now map) places ⌝ }
     requires { ⌜ (x < places) × (y < places) ⌝ }
-    ensures { λ c. ⌜ Ends (now (room .entry)) places budget (check-list (places-of (now (room .entry))) (now (letters .entry)) (mapped-list (now (map .entry)) (now (list .entry))) x y (store-in (now (room .entry)) places) budget) c (now (room .exit)) ⌝ }
+    ensures { λ c. ⌜ Ends (now (room .entry)) places budget budget (check-list (places-of (now (room .entry))) (now (letters .entry)) (mapped-list (now (map .entry)) (now (list .entry))) x y (store-in (now (room .entry)) places) budget) c (now (room .exit)) ⌝ }
 {
     if !stands_listed(list, map, x as u16, y as u16) {
-        return Checking::OpeningMissing(places, budget);
+        return Checked::OpeningMissing(places, 0);
     }
     check_pairs(room, places, list, map, letters, budget)
 }
@@ -61,17 +52,17 @@ fn check_pairs(
     map: &[u16],
     letters: &[u8],
     budget: u32,
-) -> Checking
+) -> Checked
     requires { ⌜ GoodStore (now room) places ⌝ }
     requires { ⌜ MappedInside (now list) (now map) places ⌝ }
-    ensures { λ c. ⌜ Ends (now (room .entry)) places budget (check-pairs (places-of (now (room .entry))) (now (letters .entry)) (mapped-list (now (map .entry)) (now (list .entry))) 0 (mapped-list (now (map .entry)) (now (list .entry))) (store-in (now (room .entry)) places) budget) c (now (room .exit)) ⌝ }
+    ensures { λ c. ⌜ Ends (now (room .entry)) places budget budget (check-pairs (places-of (now (room .entry))) (now (letters .entry)) (mapped-list (now (map .entry)) (now (list .entry))) 0 (mapped-list (now (map .entry)) (now (list .entry))) (store-in (now (room .entry)) places) budget) c (now (room .exit)) ⌝ }
 {
     let count = list.len() / PAIR;
     let mut taken = places;
     let mut left = budget;
     let mut n = 0;
     while n < count {
-        let passed = check_pair(room, taken, list, map, letters, n, left);
+        let passed = check_pair(room, taken, list, map, letters, n, left, budget);
         match passed {
             Passing::Passes(now_taken, now_left) => {
                 taken = now_taken;
@@ -83,10 +74,11 @@ fn check_pairs(
         }
         n += 1;
     }
-    Checking::Accepted(taken, left)
+    let visits = budget - left;
+    Checked::Accepted(taken, visits)
 }
 
-// The pair numbered n: its marks, then each letter.
+// The pair numbered n: its marks, then each letter. So much of the budget given to the call is left.
 fn check_pair(
     room: &mut [u8],
     places: usize,
@@ -95,19 +87,22 @@ fn check_pair(
     letters: &[u8],
     n: usize,
     budget: u32,
+    given: u32,
 ) -> Passing
     requires { ⌜ GoodStore (now room) places ⌝ }
     requires { ⌜ MappedInside (now list) (now map) places ⌝ }
     requires { ⌜ n < pairs-of (now list) ⌝ }
-    ensures { λ p. ⌜ Goes (now (room .entry)) places budget (check-pair (places-of (now (room .entry))) (now (letters .entry)) (mapped-list (now (map .entry)) (now (list .entry))) n (pair-at (mapped-list (now (map .entry)) (now (list .entry))) n) (store-in (now (room .entry)) places) budget) p (now (room .exit)) ⌝ }
+    requires { ⌜ budget ≤ given ⌝ }
+    ensures { λ p. ⌜ Goes (now (room .entry)) places budget given (check-pair (places-of (now (room .entry))) (now (letters .entry)) (mapped-list (now (map .entry)) (now (list .entry))) n (pair-at (mapped-list (now (map .entry)) (now (list .entry))) n) (store-in (now (room .entry)) places) budget) p (now (room .exit)) ⌝ }
 {
     let p = mapped_pair(list, map, n);
     let x = p.left as usize;
     let y = p.right as usize;
+    let visits = given - budget;
     if marked_at(room, places, x) != marked_at(room, places, y) {
-        return Passing::Ends(Checking::MarksDiffer(n, places, budget));
+        return Passing::Ends(Checked::MarksDiffer(n, places, visits));
     }
-    check_letters(room, places, list, map, letters, n, x, y, budget)
+    check_letters(room, places, list, map, letters, n, x, y, budget, given)
 }
 
 // The pair numbered n, of places x and y, by each letter in turn.
@@ -121,17 +116,19 @@ fn check_letters(
     x: usize,
     y: usize,
     budget: u32,
+    given: u32,
 ) -> Passing
     requires { ⌜ GoodStore (now room) places ⌝ }
     requires { ⌜ MappedInside (now list) (now map) places ⌝ }
     requires { ⌜ (x < places) × (y < places) ⌝ }
-    ensures { λ p. ⌜ Goes (now (room .entry)) places budget (check-letters (places-of (now (room .entry))) (mapped-list (now (map .entry)) (now (list .entry))) n x y (now (letters .entry)) (store-in (now (room .entry)) places) budget) p (now (room .exit)) ⌝ }
+    requires { ⌜ budget ≤ given ⌝ }
+    ensures { λ p. ⌜ Goes (now (room .entry)) places budget given (check-letters (places-of (now (room .entry))) (mapped-list (now (map .entry)) (now (list .entry))) n x y (now (letters .entry)) (store-in (now (room .entry)) places) budget) p (now (room .exit)) ⌝ }
 {
     let mut taken = places;
     let mut left = budget;
     let mut at = 0;
     while at < letters.len() {
-        let passed = check_letter(room, taken, list, map, letters[at], n, x, y, left);
+        let passed = check_letter(room, taken, list, map, letters[at], n, x, y, left, given);
         match passed {
             Passing::Passes(now_taken, now_left) => {
                 taken = now_taken;
@@ -157,23 +154,27 @@ fn check_letter(
     x: usize,
     y: usize,
     budget: u32,
+    given: u32,
 ) -> Passing
     requires { ⌜ GoodStore (now room) places ⌝ }
     requires { ⌜ Named (now list) (now map) ⌝ }
     requires { ⌜ (x < places) × (y < places) ⌝ }
-    ensures { λ p. ⌜ Goes (now (room .entry)) places budget (check-letters (places-of (now (room .entry))) (mapped-list (now (map .entry)) (now (list .entry))) n x y (letter ∷ []) (store-in (now (room .entry)) places) budget) p (now (room .exit)) ⌝ }
+    requires { ⌜ budget ≤ given ⌝ }
+    ensures { λ p. ⌜ Goes (now (room .entry)) places budget given (check-letters (places-of (now (room .entry))) (mapped-list (now (map .entry)) (now (list .entry))) n x y (letter ∷ []) (store-in (now (room .entry)) places) budget) p (now (room .exit)) ⌝ }
 {
     let both = derive_both(room, places, x, y, letter, budget);
     match both {
         Both::At(next_x, next_y, taken, left) => {
+            let visits = given - left;
             if stands_listed(list, map, next_x as u16, next_y as u16) {
                 Passing::Passes(taken, left)
             } else {
-                Passing::Ends(Checking::NotListed(n, letter, taken, left))
+                Passing::Ends(Checked::NotListed(n, letter, taken, visits))
             }
         }
         Both::Stopped(number, taken, left) => {
-            Passing::Ends(Checking::CutOff(number, taken, left))
+            let visits = given - left;
+            Passing::Ends(Checked::Refused(number, taken, visits))
         }
     }
 }

@@ -1,28 +1,21 @@
 // Checking: does a list of pairs prove that two cards' patterns allow the same words? `check` takes any bytes and asks nothing of its caller.
 // The definitions that its promise cites stand in specs/; specs/Lib.antt lists them.
-use crate::loading::check_opened;
+use crate::opened::check_opened;
 use crate::refusing::standing;
-use cards::examine::Standing;
-use pairs::letters::MOST_LETTERS;
+use answers::Checked;
 use pairs::letters::tried;
 use pairs::opening::Opened;
 use pairs::opening::open_both;
+use refusals::Standing;
+use refusals::limits::MOST_LETTERS;
+use refusals::numbers::NO_FREE_PLACE;
 ghost use Rattle.checking.specs.Promise.{Checks};
 
 pub mod checking;
 pub mod listing;
-pub mod loading;
 pub mod naming;
+pub mod opened;
 pub mod refusing;
-
-// The answer, with the places taken and the visits made; a rejection also with its point, a refusal with its number.
-pub enum Checked {
-    Accepted(usize, u32),
-    OpeningMissing(usize, u32),
-    MarksDiffer(usize, usize, u32),
-    NotListed(usize, u8, usize, u32),
-    Refused(u8, usize, u32),
-}
 
 // Whether the list, of pairs of the proof card's records, proves the two pattern cards' languages equal.
 pub fn check(
@@ -46,6 +39,6 @@ pub fn check(
         Opened::At(x, y, taken) => {
             check_opened(room, taken, proof, list, &letters[0..count], x, y, budget)
         }
-        Opened::Full(taken) => Checked::Refused(7, taken, 0),
+        Opened::Full(taken) => Checked::Refused(NO_FREE_PLACE, taken, 0),
     }
 }

@@ -1,10 +1,13 @@
 // The refusals of checking that need no work: the left card's 1 to 3, the right card's, the proof card's, then 5, 6 and 11.
 use crate::naming::all_named;
-use cards::examine::Standing;
 use cards::examine::examine_pattern;
 use cards::examine::examine_proof;
-use cards::record::RECORD;
 use pairs::room::wrong_pair_room;
+use records::record::RECORD;
+use refusals::Standing;
+use refusals::numbers::PAIR_NAMES_NO_RECORD;
+use refusals::numbers::PAIR_ROOM_SIZE;
+use refusals::numbers::WORK_ROOM_SIZE;
 use store::room::wrong_room;
 ghost use mathlib.Core.Path.{_≡_};
 ghost use Rattle.checking.specs.Outcome.{check-standing};
@@ -26,13 +29,13 @@ pub fn standing(left: &[u8], right: &[u8], proof: &[u8], list: &[u8], work: usiz
         return Standing::Refused(number);
     }
     if wrong_room(work) {
-        return Standing::Refused(5);
+        return Standing::Refused(WORK_ROOM_SIZE);
     }
     if wrong_pair_room(list.len()) {
-        return Standing::Refused(6);
+        return Standing::Refused(PAIR_ROOM_SIZE);
     }
     if !all_named(list, proof.len() / RECORD) {
-        return Standing::Refused(11);
+        return Standing::Refused(PAIR_NAMES_NO_RECORD);
     }
     Standing::Good
 }

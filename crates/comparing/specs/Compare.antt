@@ -5,49 +5,33 @@
 -- leaves the same. The word room changes only on "different". Number 10 also tells the length wanted and leaves the word room as lent."
 use Prim.Native.Nat.{ℕ, _-_, _/_}
 use mathlib.Core.Bool.{Bool, true, false}
-use mathlib.Core.List.{List, []}
+use mathlib.Core.List.{List, [], _∷_}
 use lib.Dec.{ltb}
 use lib.ListN.{length}
-use Rattle.cards.specs.declared.record.Record.{Record}
-use Rattle.cards.specs.declared.examine.Standing.{Standing}
-use Rattle.cards.specs.declared.examine.Standing.the-variants.{Good, Refused}
-use Rattle.cards.specs.Record.{records}
-use Rattle.cards.specs.Examine.{_then_, refused-if, pattern-card}
+use Rattle.answers.specs.Comparing.{Verdict, are-same, are-different, refused-by, word-room-short, Told}
+use Rattle.records.specs.declared.record.Record.{Record}
+use Rattle.refusals.specs.declared.Standing.{Standing}
+use Rattle.refusals.specs.declared.Standing.the-variants.{Good, Refused}
+use Rattle.records.specs.Record.{records}
+use Rattle.cards.specs.Examine.{pattern-card}
+use Rattle.refusals.specs.Numbers.{work-room-size, pair-room-size, no-free-place}
+use Rattle.refusals.specs.Order.{first-refusal, refused-if}
 use Rattle.store.specs.Room.{wrong-room}
 use Rattle.pairs.specs.declared.pair.Pair.{Pair}
 use Rattle.pairs.specs.Room.{wrong-pair-room}
 use Rattle.pairs.specs.Tried.{tried}
 use Rattle.pairs.specs.Opening.{Opening, opened, unopened, open-both}
-use Rattle.comparing.specs.declared.Comparison.{Comparison}
-use Rattle.comparing.specs.declared.Comparison.the-variants.{Same, Different, Refused as RefusedComparison, WordRoomShort}
-use Rattle.comparing.specs.Search.{Search, same, different, stopped, search}
+use Rattle.searching.specs.Search.{Search, same, different, stopped, search}
 
--- The first refusal, of two cards, a work room and a pair room of so many bytes.
+-- The order of refusals, of two cards, a work room and a pair room of so many bytes.
+abbrev pub compare-order : List ℕ → List ℕ → ℕ → ℕ → List Standing
+compare-order left right work pairs =
+    pattern-card left ∷ pattern-card right ∷ refused-if (wrong-room work) work-room-size ∷ refused-if (wrong-pair-room pairs) pair-room-size ∷ []
+
+-- The first refusal of them.
 unfoldable pub compare-standing : List ℕ → List ℕ → ℕ → ℕ → Standing
 unfolding pattern-card
-compare-standing left right work pairs =
-    pattern-card left then pattern-card right then refused-if (wrong-room work) 5 then refused-if (wrong-pair-room pairs) 6
-
--- What an answer says. "Different" tells the word's length and whether the left side has it; number 10 tells the length wanted.
-pub data Verdict : Type 0 where
-  are-same : Verdict
-  are-different : (length : ℕ) (left-has : Bool) → Verdict
-  refused-by : (number : ℕ) → Verdict
-  word-room-short : (wanted : ℕ) → Verdict
-
-pub record Told : Type 0 where
-  pub says : Verdict
-  pub pairs : ℕ
-  pub places : ℕ
-  pub visits : ℕ
-
--- The paper's number and values for each case of the answer.
-abbrev pub told : Comparison → Told
-told (Same pairs places visits) = record { says = are-same; pairs = pairs; places = places; visits = visits }
-told (Different length left-has pairs places visits) =
-    record { says = are-different length left-has; pairs = pairs; places = places; visits = visits }
-told (RefusedComparison number pairs places visits) = record { says = refused-by number; pairs = pairs; places = places; visits = visits }
-told (WordRoomShort wanted pairs places visits) = record { says = word-room-short wanted; pairs = pairs; places = places; visits = visits }
+compare-standing left right work pairs = first-refusal (compare-order left right work pairs)
 
 -- An outcome: what is told, the store and the table that stand, and the word written.
 pub record Outcome : Type 0 where
@@ -66,20 +50,25 @@ told-at verdict store table visits written =
       written = written;
     }
 
+-- Of a word that was found, by whether the word room is shorter than the word.
+abbrev pub of-word : List ℕ → Bool → List Record → List Pair → ℕ → Bool → Outcome
+of-word word left-has store table visits short =
+    elim short [
+      | true ↦ told-at (word-room-short (length word)) store table visits []
+      | false ↦ told-at (are-different (length word) left-has) store table visits word
+    ]
+
 -- Of a search, with a word room of so many bytes. Visits made and budget left add up to the budget given.
 abbrev pub of-search : ℕ → ℕ → Search → Outcome
 of-search room budget (same store table left) = told-at are-same store table (budget - left) []
 of-search room budget (different word left-has store table left) =
-    elim (ltb room (length word)) [
-      | true ↦ told-at (word-room-short (length word)) store table (budget - left) []
-      | false ↦ told-at (are-different (length word) left-has) store table (budget - left) word
-    ]
+    of-word word left-has store table (budget - left) (ltb room (length word))
 of-search room budget (stopped number store table left) = told-at (refused-by number) store table (budget - left) []
 
 -- Two cards that are opened are searched from the opening pair; number 7 where the room is full before.
 abbrev pub search-opened : ℕ → ℕ → ℕ → List ℕ → ℕ → Opening → Outcome
 search-opened room pairs word letters budget (opened x y store) = of-search word budget (search room pairs letters x y store budget)
-search-opened room pairs word letters budget (unopened store) = told-at (refused-by 7) store [] 0 []
+search-opened room pairs word letters budget (unopened store) = told-at (refused-by no-free-place) store [] 0 []
 
 abbrev pub compare-by : Standing → List ℕ → List ℕ → ℕ → ℕ → ℕ → ℕ → Outcome
 compare-by (Refused number) left right work pairs word budget = told-at (refused-by number) [] [] 0 []

@@ -1,22 +1,11 @@
 -- What is proved of the definitions: nothing here has to be believed, each file is checked.
 pub mod Refusals
-pub mod Words
-pub mod Keeps
-pub mod Frontier
-pub mod Search
-pub mod Meaning
 pub mod Compare
-pub mod Course
 pub mod Counts
 pub mod Enough
 pub mod Along
 pub mod OneOutcome
 pub mod Equality
-pub mod Edges
-pub mod Rooms
-pub mod Looking
-pub mod Letters
-pub mod Pairs
 pub mod ReadOff
 pub mod Ending
 pub mod Calling

@@ -2,35 +2,19 @@
 -- Demand 3 and document 01: "same" is an equality of languages; "different" comes with a word in exactly one of the languages, the shortest and,
 -- of those, the lowest in byte order, "never longer than the number of pairs placed".
 use Prim.Native.Nat.{ℕ, _<_, _≤_}
-use mathlib.Core.Bool.{Bool, true, false}
+use mathlib.Core.Bool.{Bool}
 use mathlib.Core.List.{List, _++_}
 use mathlib.Core.Path.{_≡_}
 use lib.ListN.{length, drop}
-use Rattle.language.specs.Word.{Word, Bytes}
+use Rattle.language.specs.Word.{Word}
 use Rattle.language.specs.Language.{Language, language, Equal}
-use Rattle.language.specs.Order.{Before}
 use Rattle.cards.specs.Meaning.{card-pattern}
 use Rattle.store.specs.Room.{laid}
 use Rattle.pairs.specs.Room.{laid-pairs}
-use Rattle.comparing.specs.declared.Comparison.{Comparison}
-use Rattle.comparing.specs.Compare.{Verdict, are-same, are-different, refused-by, word-room-short, Outcome, told, compare-outcome}
-
--- A word is in both languages or in neither.
-pub record Alike (A B : Language) (v : Word) : Type 0 where
-  pub to : A v → B v
-  pub from : B v → A v
-
--- The word is in exactly one language, on the side told.
-pub data OnlyOne (A B : Language) (word : Word) : Bool → Type 0 where
-  only-left : A word → (B word → ⊥) → OnlyOne A B word true
-  only-right : (A word → ⊥) → B word → OnlyOne A B word false
-
--- The word is in exactly one language, comes first of all words of bytes that are, and is no longer than the pairs placed.
-pub record FirstWord (A B : Language) (word : Word) (left-has : Bool) (pairs : ℕ) : Type 0 where
-  pub bytes : Bytes word
-  pub only : OnlyOne A B word left-has
-  pub first : (v : Word) → Bytes v → Before v word → Alike A B v
-  pub not-longer : length word ≤ pairs
+use Rattle.searching.specs.FirstWord.{FirstWord}
+use Rattle.answers.specs.declared.Comparison.{Comparison}
+use Rattle.answers.specs.Comparing.{Verdict, are-same, are-different, refused-by, word-room-short, told}
+use Rattle.comparing.specs.Compare.{Outcome, compare-outcome}
 
 -- What a verdict means, of the two languages, the pairs told, a word room of so many bytes and the word written in it.
 pub data TrueVerdict (A B : Language) (pairs room : ℕ) (written : Word) : Verdict → Type 0 where

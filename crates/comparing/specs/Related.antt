@@ -6,7 +6,8 @@ use mathlib.Core.Path.{_≡_}
 use Rattle.language.specs.Word.{Bytes}
 use Rattle.language.specs.Language.{Pattern, choice, sequence, repeat}
 use Rattle.cards.specs.Meaning.{card-pattern}
-use Rattle.comparing.specs.Compare.{are-same, compare-outcome}
+use Rattle.answers.specs.Comparing.{are-same}
+use Rattle.comparing.specs.Compare.{compare-outcome}
 
 -- The least relation that holds every pattern with itself and every pair judged "same" in some rooms and budget, and is closed under swap,
 -- chain and building choice, sequence and repeat from related parts.

@@ -3,37 +3,28 @@
 use crate::reading_off::Word;
 use crate::reading_off::tell_word;
 use crate::refusing::standing;
-use crate::searching::End;
-use crate::searching::search;
-use cards::examine::Standing;
-use pairs::letters::MOST_LETTERS;
+use answers::Comparison;
 use pairs::letters::tried;
 use pairs::opening::Opened;
 use pairs::opening::open_both;
+use refusals::Standing;
+use refusals::limits::MOST_LETTERS;
+use refusals::numbers::NO_FREE_PLACE;
+use searching::going::End;
+use searching::taking::search;
 ghost use mathlib.Core.Path.{_≡_};
 ghost use Prim.Native.Nat.{_<_};
 ghost use lib.ListN.{length};
 ghost use Rattle.store.specs.Room.{store-in, places-of};
 ghost use Rattle.store.specs.Good.{GoodStore};
 ghost use Rattle.pairs.specs.Room.{pairs-of};
-ghost use Rattle.comparing.specs.Search.{search};
+ghost use Rattle.searching.specs.Search.{search};
 ghost use Rattle.comparing.specs.Compare.{of-search};
 ghost use Rattle.comparing.specs.Promise.{Leaves, Compares};
-ghost use Rattle.comparing.specs.Told.{LegalPairs};
+ghost use Rattle.searching.specs.Told.{LegalPairs};
 
-pub mod looking;
 pub mod reading_off;
 pub mod refusing;
-pub mod searching;
-
-// The answer, with the pairs placed, the places taken and the visits made. "Different" also tells the length of the word, which stands at the
-// start of the word room, and whether the left side has it; a refusal its number; number 10, a word room that is too short, the length wanted.
-pub enum Comparison {
-    Same(usize, usize, u32),
-    Different(usize, bool, usize, usize, u32),
-    Refused(u8, usize, usize, u32),
-    WordRoomShort(usize, usize, usize, u32),
-}
 
 // Whether the two cards' patterns have the same language.
 pub fn compare(
@@ -57,7 +48,7 @@ pub fn compare(
         Opened::At(x, y, taken) => {
             compare_opened(work, taken, pairs, word, &letters[0..count], x, y, budget)
         }
-        Opened::Full(taken) => Comparison::Refused(7, 0, taken, 0),
+        Opened::Full(taken) => Comparison::Refused(NO_FREE_PLACE, 0, taken, 0),
     }
 }
 

@@ -5,8 +5,9 @@ ghost use mathlib.Core.List.{_∷_, _++_};
 ghost use Prim.Native.Nat.{suc, _-_, _<_, _≤_};
 ghost use lib.ListN.{length, drop};
 ghost use Rattle.pairs.specs.Room.{table-in};
-ghost use Rattle.comparing.specs.ReadOff.{word-of};
-ghost use Rattle.comparing.specs.Told.{OrderedPairs, found-word, Wrote};
+ghost use Rattle.searching.specs.ReadOff.{word-of};
+ghost use Rattle.comparing.specs.Told.{Wrote};
+ghost use Rattle.searching.specs.Told.{OrderedPairs, found-word};
 
 // The word is written at the start of the word room, and is so long; or the word room is too short for a word so long.
 pub enum Word {

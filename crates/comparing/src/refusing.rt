@@ -1,7 +1,9 @@
 // The refusals of comparing that need no work: the left card's 1 to 3, the right card's, then 5, then 6.
-use cards::examine::Standing;
 use cards::examine::examine_pattern;
 use pairs::room::wrong_pair_room;
+use refusals::Standing;
+use refusals::numbers::PAIR_ROOM_SIZE;
+use refusals::numbers::WORK_ROOM_SIZE;
 use store::room::wrong_room;
 ghost use mathlib.Core.Path.{_≡_};
 ghost use Rattle.comparing.specs.Compare.{compare-standing};
@@ -19,10 +21,10 @@ pub fn standing(left: &[u8], right: &[u8], work: usize, pairs: usize) -> Standin
         return Standing::Refused(number);
     }
     if wrong_room(work) {
-        return Standing::Refused(5);
+        return Standing::Refused(WORK_ROOM_SIZE);
     }
     if wrong_pair_room(pairs) {
-        return Standing::Refused(6);
+        return Standing::Refused(PAIR_ROOM_SIZE);
     }
     Standing::Good
 }

@@ -1,7 +1,7 @@
 -- Two places derived by one letter. Document 01: "For each letter the left is derived, then the right."
 use Prim.Native.Nat.{ℕ}
 use mathlib.Core.List.{List}
-use Rattle.cards.specs.declared.record.Record.{Record}
+use Rattle.records.specs.declared.record.Record.{Record}
 use Rattle.derivative.specs.Derivative.{Deriving, derived, stopped, derive}
 
 -- Both derived places, the store and the budget left; or the number that stopped one, and these two as they stood.

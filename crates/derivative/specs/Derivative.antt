@@ -10,13 +10,14 @@ use Prim.Native.Nat.{ℕ, zero, suc, _-_}
 use mathlib.Core.Bool.{Bool, true, false}
 use mathlib.Core.List.{List}
 use lib.Dec.{eqb, ltb}
-use Rattle.cards.specs.declared.kind.Kind.{Kind}
-use Rattle.cards.specs.declared.kind.Kind.the-variants.{Nothing, EmptyWord, Letter, Choice, Sequence, Repeat, Unknown}
-use Rattle.cards.specs.declared.record.Record.{Record}
-use Rattle.cards.specs.Record.{child}
-use Rattle.cards.specs.Kind.{kind-of}
+use Rattle.refusals.specs.Numbers.{no-free-place, no-budget-left}
+use Rattle.records.specs.declared.kind.Kind.{Kind}
+use Rattle.records.specs.declared.kind.Kind.the-variants.{Nothing, EmptyWord, Letter, Choice, Sequence, Repeat, Unknown}
+use Rattle.records.specs.declared.record.Record.{Record}
+use Rattle.records.specs.Record.{child}
+use Rattle.records.specs.Kind.{kind-of, choice-kind, sequence-kind}
 use Rattle.cards.specs.Mark.{bit, marked}
-use Rattle.store.specs.Making.{Making, placed, full, make}
+use Rattle.store.specs.Making.{Making, placed, full, nothing-place, make}
 
 -- What a derivation comes to: the derived place, the store and the budget left; or the number that stopped it, and these two as they stood.
 pub data Deriving : Type 0 where
@@ -27,13 +28,6 @@ pub data Deriving : Type 0 where
 abbrev pub price : ℕ → ℕ
 price place = 1
 
--- The numbers of the two kinds that a derivative makes.
-abbrev pub choice-kind : ℕ
-choice-kind = 3
-
-abbrev pub sequence-kind : ℕ
-sequence-kind = 4
-
 -- Goes on from what was derived; a stop stays a stop.
 abbrev pub and-then : Deriving → (ℕ → List Record → ℕ → Deriving) → Deriving
 and-then (derived place store budget) next = next place store budget
@@ -42,7 +36,7 @@ and-then (stopped number store budget) next = stopped number store budget
 -- What making comes to in a derivation: number 7 where no place is free.
 abbrev pub of-making : Making → ℕ → Deriving
 of-making (placed place store) budget = derived place store budget
-of-making (full store) budget = stopped 7 store budget
+of-making (full store) budget = stopped no-free-place store budget
 
 abbrev pub making : ℕ → ℕ → ℕ → ℕ → List Record → ℕ → Deriving
 making room kind left right store budget = of-making (make room store kind 0 left right) budget
@@ -81,13 +75,13 @@ derive-repeat derive room left self store budget =
 
 -- A record that was visited, by its kind: the record, whether its left child's mark says yes, and its place.
 abbrev pub derive-record : Kind → (ℕ → List Record → ℕ → Deriving) → ℕ → ℕ → Record → Bool → ℕ → List Record → ℕ → Deriving
-derive-record Nothing derive room letter r left-marked self store budget = derived 0 store budget
-derive-record EmptyWord derive room letter r left-marked self store budget = derived 0 store budget
+derive-record Nothing derive room letter r left-marked self store budget = derived nothing-place store budget
+derive-record EmptyWord derive room letter r left-marked self store budget = derived nothing-place store budget
 derive-record Letter derive room letter r left-marked self store budget = derived (bit (eqb (r .letter) letter)) store budget
 derive-record Choice derive room letter r left-marked self store budget = derive-choice derive room (r .left) (r .right) store budget
 derive-record Sequence derive room letter r left-marked self store budget = derive-sequence derive room (r .left) (r .right) left-marked store budget
 derive-record Repeat derive room letter r left-marked self store budget = derive-repeat derive room (r .left) self store budget
-derive-record Unknown derive room letter r left-marked self store budget = derived 0 store budget
+derive-record Unknown derive room letter r left-marked self store budget = derived nothing-place store budget
 
 -- The record at a place, once the visit is paid.
 abbrev pub derive-visited : (ℕ → List Record → ℕ → Deriving) → ℕ → ℕ → ℕ → List Record → ℕ → Deriving
@@ -98,10 +92,10 @@ derive-visited derive room letter place store budget =
 -- The derivative of a place by a letter, in a room of so many places. A child stands lower than its parent, so a depth above the place
 -- is enough.
 unfoldable pub derive-to : ℕ → ℕ → ℕ → ℕ → List Record → ℕ → Deriving
-derive-to zero room letter place store budget = stopped 8 store budget
+derive-to zero room letter place store budget = stopped no-budget-left store budget
 derive-to (suc depth) room letter place store budget =
     elim (ltb budget (price place)) [
-      | true ↦ stopped 8 store budget
+      | true ↦ stopped no-budget-left store budget
       | false ↦ derive-visited (λ p s b. derive-to depth room letter p s b) room letter place store (budget - price place)
     ]
 

@@ -3,9 +3,10 @@ use Prim.Native.Nat.{ℕ}
 use mathlib.Core.List.{List}
 use mathlib.Core.Path.{_≡_}
 use lib.ListN.{length}
-use Rattle.cards.specs.declared.record.Record.{Record}
-use Rattle.store.specs.declared.making.Made.{Made}
-use Rattle.store.specs.declared.making.Made.the-variants.{Placed, Full}
+use Rattle.refusals.specs.Numbers.{no-free-place}
+use Rattle.records.specs.declared.record.Record.{Record}
+use Rattle.store.specs.declared.interning.Made.{Made}
+use Rattle.store.specs.declared.interning.Made.the-variants.{Placed, Full}
 use Rattle.store.specs.Room.{laid}
 use Rattle.derivative.specs.declared.Derived.{Derived}
 use Rattle.derivative.specs.declared.Derived.the-variants.{At, Stopped}
@@ -31,7 +32,7 @@ pub record Comes (room : List ℕ) (d : Deriving) (answer : Derived) (room′ : 
 -- What the code answers of a making within a derivation.
 abbrev pub of-made : Made → ℕ → Derived
 of-made (Placed place taken) budget = At place taken budget
-of-made (Full taken) budget = Stopped 7 taken budget
+of-made (Full taken) budget = Stopped no-free-place taken budget
 
 -- The same of two places derived by one letter.
 abbrev pub told-both : DerivingBoth → Both

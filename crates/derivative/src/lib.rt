@@ -1,15 +1,20 @@
 // The derivative over a store's places, by recursion on the place: a child stands lower than its parent.
 // The definitions that the contracts cite stand in specs/; specs/Lib.antt lists them. Nothing of this is offered to others.
 use cards::examine::as_mark;
-use cards::kind::Kind;
-use cards::kind::named;
-use cards::record::read;
-use store::making::Made;
+use records::kind::CHOICE;
+use records::kind::Kind;
+use records::kind::SEQUENCE;
+use records::kind::named;
+use records::record::read;
+use refusals::numbers::NO_BUDGET_LEFT;
+use refusals::numbers::NO_FREE_PLACE;
+use store::interning::Made;
+use store::interning::marked_at;
 use store::making::make;
-use store::making::marked_at;
+use store::room::NOTHING_PLACE;
 ghost use mathlib.Core.Path.{_≡_};
 ghost use Prim.Native.Nat.{ℕ, _<_};
-ghost use Rattle.cards.specs.Record.{child};
+ghost use Rattle.records.specs.Record.{child};
 ghost use Rattle.cards.specs.Mark.{marked};
 ghost use Rattle.store.specs.Room.{store-in, places-of};
 ghost use Rattle.store.specs.Good.{GoodStore};
@@ -17,11 +22,6 @@ ghost use Rattle.derivative.specs.Derivative.{price, choice-with, derive
 ghost use Rattle.derivative.specs.Told.{Comes, of-made};
 
 pub mod both;
-
-// The numbers of the two kinds that a derivative makes.
-const CHOICE: u8 = 3;
-
-const SEQUENCE: u8 = 4;
 
 // What a visit costs.
 const PRICE: u32 = 1;
@@ -40,13 +40,13 @@ pub fn derive(room: &mut [u8], places: usize, place: usize, letter: u8, budget: 
 {
     let fee = price(place);
     if budget < fee {
-        return Derived::Stopped(8, places, budget);
+        return Derived::Stopped(NO_BUDGET_LEFT, places, budget);
     }
     let rest = budget - fee;
     let r = read(room, place);
     match named(r.kind) {
-        Kind::Nothing => Derived::At(0, places, rest),
-        Kind::EmptyWord => Derived::At(0, places, rest),
+        Kind::Nothing => Derived::At(NOTHING_PLACE, places, rest),
+        Kind::EmptyWord => Derived::At(NOTHING_PLACE, places, rest),
         Kind::Letter => Derived::At(as_mark(r.letter == letter) as usize, places, rest),
         Kind::Choice => {
             derive_choice(
@@ -69,7 +69,7 @@ pub fn derive(room: &mut [u8], places: usize, place: usize, letter: u8, budget: 
             )
         }
         Kind::Repeat => derive_repeat(room, places, r.left as usize, place, letter, rest),
-        Kind::Unknown => Derived::At(0, places, rest),
+        Kind::Unknown => Derived::At(NOTHING_PLACE, places, rest),
     }
 }
 
@@ -166,7 +166,7 @@ fn with_product(
     let product = make(room, places, SEQUENCE, 0, x, right);
     match product {
         Made::Placed(y, taken) => after_product(room, taken, right, left_marked, y, letter, budget),
-        Made::Full(taken) => Derived::Stopped(7, taken, budget),
+        Made::Full(taken) => Derived::Stopped(NO_FREE_PLACE, taken, budget),
     }
 }
 
@@ -217,6 +217,6 @@ fn made(m: Made, budget: u32) -> Derived
 {
     match m {
         Made::Placed(place, taken) => Derived::At(place, taken, budget),
-        Made::Full(taken) => Derived::Stopped(7, taken, budget),
+        Made::Full(taken) => Derived::Stopped(NO_FREE_PLACE, taken, budget),
     }
 }

@@ -9,10 +9,11 @@
 use jobtext::MOST_ANSWER;
 use libc::STDIN_FILENO;
 use libc::STDOUT_FILENO;
+use refusals::limits::MOST_JOB;
 
 // The bytes that are read: one more than the longest job has, so that a longer one is known, and no more, so that the program ends on
 // endless input too.
-const MOST_READ: usize = 65537;
+const MOST_READ: usize = MOST_JOB + 1;
 
 fn main() {
     let mut job = [0u8; MOST_READ];

@@ -4,21 +4,26 @@
 use Prim.Native.Nat.{ℕ}
 use mathlib.Core.Bool.{Bool, true, false}
 use mathlib.Core.List.{List, _++_}
-use Rattle.matching.specs.Fits.{Says, yes, no, refused, Told as ToldOfMatch, fits-outcome}
-use Rattle.comparing.specs.Compare.{Verdict, are-same, are-different, refused-by, word-room-short, Told, Outcome, compare-outcome}
-use Rattle.jobtext.specs.Ascii.{ascii, line}
-use Rattle.jobtext.specs.Digits.{hex, decimal}
-use Rattle.jobtext.specs.Form.{Job, compare-job, match-job}
+use Rattle.refusals.specs.Numbers.{short-word-room}
+use Rattle.refusals.specs.Limits.{most-room, most-pair-room, most-pairs}
+use Rattle.matching.specs.Fits.{fits-outcome}
+use Rattle.answers.specs.Matching.{Says, yes, no, refused, Told as ToldOfMatch}
+use Rattle.comparing.specs.Compare.{Outcome, compare-outcome}
+use Rattle.answers.specs.Comparing.{Verdict, are-same, are-different, refused-by, word-room-short, Told}
+use Rattle.text.specs.Ascii.{ascii, line}
+use Rattle.text.specs.Digits.{hex, decimal}
+use Rattle.jobform.specs.Form.{Job, compare-job, match-job}
 
--- The bytes lent as work room, pair room and word room.
+-- The bytes lent as work room, pair room and word room: the largest work room and pair room that a call takes, and a byte for each pair, since a word
+-- is no longer than the pairs placed.
 abbrev pub lent-work : ℕ
-lent-work = 32768
+lent-work = most-room
 
 abbrev pub lent-pairs : ℕ
-lent-pairs = 8192
+lent-pairs = most-pair-room
 
 abbrev pub lent-word : ℕ
-lent-word = 1024
+lent-word = most-pairs
 
 -- A refusal, by its number.
 unfoldable pub refused-text : ℕ → List ℕ
@@ -55,7 +60,7 @@ abbrev pub compared-text : Verdict → List ℕ → ℕ → ℕ → ℕ → List
 compared-text are-same written pairs places visits = same-text pairs places visits
 compared-text (are-different length left-has) written pairs places visits = different-text written (side left-has) pairs places visits
 compared-text (refused-by number) written pairs places visits = refused-text number
-compared-text (word-room-short wanted) written pairs places visits = refused-text 10
+compared-text (word-room-short wanted) written pairs places visits = refused-text short-word-room
 
 -- Of a match: what it says, and the counts.
 abbrev pub matched-text : Says → ℕ → ℕ → List ℕ

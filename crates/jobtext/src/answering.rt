@@ -1,14 +1,15 @@
 // The text of an answer, laid down from the start of the room, which is long enough for the longest.
-use crate::writing::put;
-use crate::writing::put_hex_line;
-use crate::writing::put_line;
-use crate::writing::put_number;
+use text::writing::put;
+use text::writing::put_hex_line;
+use text::writing::put_line;
+use text::writing::put_number;
 ghost use mathlib.Core.List.{_++_};
 ghost use Prim.Native.Nat.{_+_, _≤_};
 ghost use lib.ListN.{length};
+ghost use Rattle.text.specs.Told.{Puts};
 ghost use Rattle.jobtext.specs.Answer.{lent-word, refused-text, two-counts, three-counts, same-text, different-text};
 ghost use Rattle.jobtext.specs.Promise.{most-answer};
-ghost use Rattle.jobtext.specs.Told.{Puts, Lays, most-verdict, most-two-counts, most-three-counts};
+ghost use Rattle.jobtext.specs.Told.{Lays, most-verdict, most-two-counts, most-three-counts};
 
 // A refusal, by its number.
 pub fn lay_refusal(out: &mut [u8], number: u8) -> usize

@@ -1,5 +1,4 @@
 -- The judge: the door to the calls `fits`, `compare` and `check`.
--- To be believed: Answers (which answer below each answer is). What the calls promise stands in matching, comparing and checking.
--- Proved of it: everything below Laws.
-pub mod Answers
+-- What the calls promise stands in matching, comparing and checking, and what their answers tell in answers.
+-- Proved of them: everything below Laws.
 pub mod Laws

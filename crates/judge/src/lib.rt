@@ -1,6 +1,6 @@
 // The judge: the three calls that are offered to others. `fits` says whether a word fits a pattern, `compare` whether two patterns allow the same
 // words, and `check` whether a list of pairs proves that they do. Nothing of the store shows through: a caller sees these calls and their answers,
-// and the crates below are not offered.
+// whose types the crate `answers` declares; no other crate below is offered.
 //
 // What is lent. Cards, words, lists and rooms may be any bytes of any length, and a budget any number of visits. The calls ask nothing of their
 // caller, always end, and read and write nothing outside what they are lent. What a room held before plays no part in any answer.
@@ -23,45 +23,21 @@
 // Numbers 1 to 6 and 11 come before any work, in the order that each call names: for a card 1 first, then record by record, 2 before 3. They tell
 // zeros and leave every byte as lent. Numbers 7 to 10 come on the way: what was placed by then stands and is told.
 //
-// The promises that the contracts cite stand in specs/Promise.antt of matching, comparing and checking, and speak of the answers there.
-// specs/Answers.antt says which answer there each answer here is: the one of the same name, with the same values.
-use crate::answers::checked_of;
-use crate::answers::comparison_of;
-use crate::answers::match_of;
+// The answers are those of the crate `answers`, which says what each tells: a program that calls the door names it too.
+// The promises that the contracts cite stand in specs/Promise.antt of matching, comparing and checking.
+use answers::Checked;
+use answers::Comparison;
+use answers::Match;
 ghost use Rattle.matching.specs.Promise.{Fits};
 ghost use Rattle.comparing.specs.Promise.{Compares};
 ghost use Rattle.checking.specs.Promise.{Checks};
-ghost use Rattle.judge.specs.Answers.{as-match, as-comparison, as-checked};
-
-mod answers;
-
-// The answer of `fits`, with these values in this order:
-//   Yes, No        places, visits
-//   Refused        number, places, visits
-pub enum Match {
-    Yes(usize, u32),
-    No(usize, u32),
-    Refused(u8, usize, u32),
-}
 
 // Whether the word is in the language of the card's pattern. The room is the work room.
 // Refused by 1 to 3 for the card, 4, 5; on the way by 7 and 8.
 pub fn fits(card: &[u8], word: &[u8], room: &mut [u8], budget: u32) -> Match
-    ensures { λ m. ⌜ Fits (now (card .entry)) (now (word .entry)) (now (room .entry)) budget (as-match m) (now (room .exit)) ⌝ }
+    ensures { λ m. ⌜ Fits (now (card .entry)) (now (word .entry)) (now (room .entry)) budget m (now (room .exit)) ⌝ }
 {
-    match_of(matching::fits(card, word, room, budget))
-}
-
-// The answer of `compare`, with these values in this order:
-//   Same           pairs, places, visits
-//   Different      length of the word, whether the left side has it, pairs, places, visits; the word stands at the start of the word room
-//   Refused        number, pairs, places, visits
-//   WordRoomShort  length wanted, pairs, places, visits; this is number 10
-pub enum Comparison {
-    Same(usize, usize, u32),
-    Different(usize, bool, usize, usize, u32),
-    Refused(u8, usize, usize, u32),
-    WordRoomShort(usize, usize, usize, u32),
+    matching::fits(card, word, room, budget)
 }
 
 // Whether the two cards' patterns have the same language. The rooms are the work room, the pair room and the word room. The records and the
@@ -76,23 +52,9 @@ pub fn compare(
     word: &mut [u8],
     budget: u32,
 ) -> Comparison
-    ensures { λ c. ⌜ Compares (now (left .entry)) (now (right .entry)) (now (work .entry)) (now (pairs .entry)) (now (word .entry)) budget (as-comparison c) (now (work .exit)) (now (pairs .exit)) (now (word .exit)) ⌝ }
+    ensures { λ c. ⌜ Compares (now (left .entry)) (now (right .entry)) (now (work .entry)) (now (pairs .entry)) (now (word .entry)) budget c (now (work .exit)) (now (pairs .exit)) (now (word .exit)) ⌝ }
 {
-    comparison_of(comparing::compare(left, right, work, pairs, word, budget))
-}
-
-// The answer of `check`, with these values in this order. A rejection tells the first failing point, and numbers pairs from 0:
-//   Accepted        places, visits
-//   OpeningMissing  places, visits; rejected, since the opening pair is not listed
-//   MarksDiffer     pair, places, visits; rejected, since the marks of the pair differ
-//   NotListed       pair, letter, places, visits; rejected, since the pair leads by the letter to one that is not listed
-//   Refused         number, places, visits
-pub enum Checked {
-    Accepted(usize, u32),
-    OpeningMissing(usize, u32),
-    MarksDiffer(usize, usize, u32),
-    NotListed(usize, u8, usize, u32),
-    Refused(u8, usize, u32),
+    comparing::compare(left, right, work, pairs, word, budget)
 }
 
 // Whether the list, of pairs of the proof card's records, proves the two pattern cards' languages equal. The room is the work room.
@@ -105,7 +67,7 @@ pub fn check(
     room: &mut [u8],
     budget: u32,
 ) -> Checked
-    ensures { λ c. ⌜ Checks (now (left .entry)) (now (right .entry)) (now (proof .entry)) (now (list .entry)) (now (room .entry)) budget (as-checked c) (now (room .exit)) ⌝ }
+    ensures { λ c. ⌜ Checks (now (left .entry)) (now (right .entry)) (now (proof .entry)) (now (list .entry)) (now (room .entry)) budget c (now (room .exit)) ⌝ }
 {
-    checked_of(checking::check(left, right, proof, list, room, budget))
+    checking::check(left, right, proof, list, room, budget)
 }

@@ -1,58 +1,71 @@
-// Writing to standard output: words, bytes in hex, and the end of a line's answer.
-use crate::hex::digit;
+// Writing to standard output: words, keys with their values, bytes in hex, and the end of a line's answer.
 use crate::parts::part;
 use libc::STDOUT_FILENO;
+use text::writing::put_hex;
+ghost use Prim.Native.Nat.{_<_, _≤_};
 
-// The digits that are written at once.
-const BLOCK: usize = 4096;
+// The bytes whose digits are written at once.
+const BLOCK: usize = 2048;
 
 // Words as they stand.
-pub fn text(words: &[u8]) {
-    io::write_all(STDOUT_FILENO, words);
+pub fn words(shown: &[u8]) {
+    io::write_all(STDOUT_FILENO, shown);
+}
+
+// A key and its number.
+pub fn number(key: &[u8], value: u64) {
+    words(key);
+    io::print_decimal(STDOUT_FILENO, value);
+}
+
+// A key and its bytes.
+pub fn bytes(key: &[u8], shown: &[u8]) {
+    words(key);
+    hex(shown);
+}
+
+// A key and its one byte.
+pub fn byte(key: &[u8], shown: u8) {
+    let one = [shown; 1];
+    bytes(key, &one);
 }
 
 // Bytes as lower-case hexadecimal digits.
 pub fn hex(shown: &[u8]) {
-    let mut block = [0u8; BLOCK];
-    let mut length = 0;
     let mut at = 0;
     while at < shown.len() {
-        length = put(&mut block, length, shown[at]);
-        at += 1;
+        let next = block_end(shown.len(), at);
+        block(part(shown, at, next));
+        at = next;
     }
-    write(&block, length);
 }
 
 // Ends the answer to a line, which is `bad line` where the line was not answered.
 pub fn end(answered: bool) {
     if !answered {
-        text(b"bad line");
+        words(b"bad line");
     }
-    text(b"\n");
+    words(b"\n");
 }
 
-// Puts a byte's digits into the block, which is written first where it is full.
-fn put(block: &mut [u8; BLOCK], length: usize, byte: u8) -> usize {
-    if length < BLOCK - 1 {
-        put_at(block, length, byte)
+// Where the block that begins at a place ends.
+fn block_end(length: usize, at: usize) -> usize
+    requires { ⌜ at < length ⌝ }
+    ensures { λ r. ⌜ at < r ⌝ }
+    ensures { λ r. ⌜ r ≤ length ⌝ }
+{
+    if length - at <= BLOCK {
+        length
     } else {
-        write(block, length);
-        put_at(block, 0, byte)
+        at + BLOCK
     }
 }
 
-// Puts a byte's digits into the block at a place, and tells the place behind them.
-fn put_at(block: &mut [u8; BLOCK], at: usize, byte: u8) -> usize {
-    if at < BLOCK - 1 {
-        block[at] = digit(byte / 16);
-        block[at + 1] = digit(byte % 16);
-        at + 2
-    } else {
-        at
+// Writes the digits of no more bytes than a block has.
+fn block(shown: &[u8]) {
+    let mut digits = [0u8; 2 * BLOCK];
+    if shown.len() <= BLOCK {
+        let length = put_hex(&mut digits, 0, shown);
+        words(part(&digits, 0, length));
     }
-}
-
-// Writes the digits that the block has.
-fn write(block: &[u8; BLOCK], length: usize) {
-    text(part(block, 0, length));
 }

@@ -1,12 +1,12 @@
 -- The visits of following a word: the sum of `visits` over the derivations done, along the places reached, and those made in one that stopped.
 use Prim.Native.Nat.{ℕ, _+_, _-_, _/_}
 use mathlib.Core.List.{List, [], _∷_}
-use Rattle.cards.specs.declared.record.Record.{Record}
-use Rattle.cards.specs.declared.examine.Standing.{Standing}
-use Rattle.cards.specs.declared.examine.Standing.the-variants.{Good, Refused}
-use Rattle.cards.specs.Record.{records}
+use Rattle.records.specs.declared.record.Record.{Record}
+use Rattle.refusals.specs.declared.Standing.{Standing}
+use Rattle.refusals.specs.declared.Standing.the-variants.{Good, Refused}
+use Rattle.records.specs.Record.{records}
 use Rattle.store.specs.Room.{fresh-store}
-use Rattle.store.specs.Loading.{root, Loading, loaded, no-room, load}
+use Rattle.loading.specs.Loading.{root, Loading, loaded, no-room, load}
 use Rattle.derivative.specs.Derivative.{derived, stopped, derive}
 use Rattle.derivative.specs.Visits.{visits}
 use Rattle.matching.specs.Refusals.{standing-of, match-standing}

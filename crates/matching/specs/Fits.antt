@@ -6,35 +6,17 @@ use Prim.Native.Nat.{ℕ, _-_, _/_}
 use mathlib.Core.Bool.{cond}
 use mathlib.Core.List.{List, [], _∷_}
 use lib.ListN.{length}
-use Rattle.cards.specs.declared.record.Record.{Record}
-use Rattle.cards.specs.declared.examine.Standing.{Standing}
-use Rattle.cards.specs.declared.examine.Standing.the-variants.{Good, Refused}
-use Rattle.cards.specs.Record.{records, child}
+use Rattle.answers.specs.Matching.{yes, no, refused, Told}
+use Rattle.records.specs.declared.record.Record.{Record}
+use Rattle.records.specs.Record.{records, child}
+use Rattle.refusals.specs.declared.Standing.{Standing}
+use Rattle.refusals.specs.declared.Standing.the-variants.{Good, Refused}
+use Rattle.refusals.specs.Numbers.{no-free-place}
 use Rattle.cards.specs.Mark.{marked}
 use Rattle.store.specs.Room.{fresh-store}
-use Rattle.store.specs.Loading.{Loading, loaded, no-room, load, root}
+use Rattle.loading.specs.Loading.{Loading, loaded, no-room, load, root}
 use Rattle.derivative.specs.Derivative.{Deriving, derived, stopped, and-then, derive}
-use Rattle.matching.specs.declared.Match.{Match}
-use Rattle.matching.specs.declared.Match.the-variants.{Yes, No, Refused as RefusedMatch}
 use Rattle.matching.specs.Refusals.{standing-of, match-standing}
-
--- What an answer says.
-pub data Says : Type 0 where
-  yes : Says
-  no : Says
-  refused : (number : ℕ) → Says
-
--- What is told: yes, no or the paper's number, the places and the visits.
-pub record Told : Type 0 where
-  pub says : Says
-  pub places : ℕ
-  pub visits : ℕ
-
--- The paper's number and values for each case of the answer.
-abbrev pub told : Match → Told
-told (Yes places visits) = record { says = yes; places = places; visits = visits }
-told (No places visits) = record { says = no; places = places; visits = visits }
-told (RefusedMatch number places visits) = record { says = refused number; places = places; visits = visits }
 
 -- An outcome: what is told, and the store that stands in the room. Every byte behind it is as lent.
 pub record Outcome : Type 0 where
@@ -57,7 +39,7 @@ judged budget (stopped number store left) =
 abbrev pub follow-loaded : ℕ → List ℕ → ℕ → Loading → Outcome
 follow-loaded room word budget (loaded places store) = judged budget (follow room word (root places) store budget)
 follow-loaded room word budget (no-room store) =
-    record { tells = record { says = refused 7; places = length store; visits = 0 }; store = store }
+    record { tells = record { says = refused no-free-place; places = length store; visits = 0 }; store = store }
 
 -- In a room of so many places.
 unfoldable pub fits-in : List ℕ → List ℕ → ℕ → ℕ → Outcome

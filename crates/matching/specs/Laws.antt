@@ -3,5 +3,5 @@ pub mod Follow
 pub mod Refusals
 pub mod Fits
 pub mod OneOutcome
-pub mod Edges
 pub mod Rooms
+pub mod Call

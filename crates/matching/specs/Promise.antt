@@ -4,11 +4,12 @@ use Prim.Native.Nat.{ℕ}
 use mathlib.Core.List.{List}
 use mathlib.Core.Path.{_≡_}
 use lib.ListN.{length}
+use Rattle.answers.specs.declared.Match.{Match}
+use Rattle.answers.specs.Matching.{yes, no, Told, told}
 use Rattle.language.specs.Language.{language}
 use Rattle.cards.specs.Meaning.{card-pattern}
 use Rattle.store.specs.Room.{laid}
-use Rattle.matching.specs.declared.Match.{Match}
-use Rattle.matching.specs.Fits.{yes, no, Told, told, Outcome, fits-outcome}
+use Rattle.matching.specs.Fits.{Outcome, fits-outcome}
 
 -- What is told is true: yes of words in the card's language alone, no of words not in it.
 pub record TrueOf (card word : List ℕ) (t : Told) : Type 0 where

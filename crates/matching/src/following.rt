@@ -1,7 +1,6 @@
 // Following a word from a place: one step for each byte.
 use derivative::Derived;
 use derivative::derive;
-ghost use mathlib.Core.Path.{_≡_};
 ghost use Prim.Native.Nat.{_<_};
 ghost use Rattle.store.specs.Room.{store-in, places-of};
 ghost use Rattle.store.specs.Good.{GoodStore};

@@ -1,29 +1,23 @@
 // Matching: does a word fit a card's pattern? `fits` takes any bytes and asks nothing of its caller.
 // The definitions that its promise cites stand in specs/; specs/Lib.antt lists them.
-use crate::beginning::Begun;
-use crate::beginning::begin;
 use crate::following::follow;
 use crate::refusing::standing;
-use cards::examine::Standing;
+use answers::Match;
 use derivative::Derived;
-use store::making::marked_at;
-ghost use mathlib.Core.Path.{_≡_};
+use loading::entering::Entered;
+use loading::entering::enter;
+use loading::fresh::fresh;
+use refusals::Standing;
+use refusals::numbers::NO_FREE_PLACE;
+use store::interning::marked_at;
 ghost use Prim.Native.Nat.{_<_};
-ghost use Rattle.store.specs.Room.{store-in, places-of, laid};
+ghost use Rattle.store.specs.Room.{store-in, places-of};
 ghost use Rattle.store.specs.Good.{GoodStore};
-ghost use Rattle.matching.specs.Fits.{told, follow, judged};
+ghost use Rattle.matching.specs.Fits.{follow, judged};
 ghost use Rattle.matching.specs.Promise.{Fits, Judges};
 
-pub mod beginning;
 pub mod following;
 pub mod refusing;
-
-// The answer, with the places taken and the visits made; a refusal also with its number.
-pub enum Match {
-    Yes(usize, u32),
-    No(usize, u32),
-    Refused(u8, usize, u32),
-}
 
 // Whether the word is in the language of the card's pattern.
 pub fn fits(card: &[u8], word: &[u8], room: &mut [u8], budget: u32) -> Match
@@ -33,10 +27,11 @@ pub fn fits(card: &[u8], word: &[u8], room: &mut [u8], budget: u32) -> Match
     if let Standing::Refused(number) = found {
         return Match::Refused(number, 0, 0);
     }
-    let begun = begin(card, room);
-    match begun {
-        Begun::At(place, taken) => judge(room, taken, place, word, budget),
-        Begun::Full(taken) => Match::Refused(7, taken, 0),
+    let places = fresh(room);
+    let entered = enter(room, places, card);
+    match entered {
+        Entered::At(place, taken) => judge(room, taken, place, word, budget),
+        Entered::Full(taken) => Match::Refused(NO_FREE_PLACE, taken, 0),
     }
 }
 

@@ -1,13 +1,12 @@
 // The refusals of matching that need no work: the card's 1 to 3, then 4, then 5.
-use cards::examine::Standing;
 use cards::examine::examine_pattern;
+use refusals::Standing;
+use refusals::limits::MOST_WORD;
+use refusals::numbers::LONG_WORD;
+use refusals::numbers::WORK_ROOM_SIZE;
 use store::room::wrong_room;
 ghost use mathlib.Core.Path.{_≡_};
-ghost use lib.Dec.{ltb};
-ghost use Rattle.matching.specs.Refusals.{most-word, standing-of};
-
-// The largest number of bytes in a word.
-pub const MOST_WORD: usize = 65535;
+ghost use Rattle.matching.specs.Refusals.{standing-of};
 
 // The first refusal, of a card, a word of so many bytes and a work room of so many.
 pub fn standing(card: &[u8], word: usize, room: usize) -> Standing
@@ -18,10 +17,10 @@ pub fn standing(card: &[u8], word: usize, room: usize) -> Standing
         return Standing::Refused(number);
     }
     if MOST_WORD < word {
-        return Standing::Refused(4);
+        return Standing::Refused(LONG_WORD);
     }
     if wrong_room(room) {
-        return Standing::Refused(5);
+        return Standing::Refused(WORK_ROOM_SIZE);
     }
     Standing::Good
 }

@@ -1,9 +1,9 @@
 -- Opening two cards. Document 01: "A comparison loads left, then right; the checker then loads the proof card."
 use Prim.Native.Nat.{ℕ}
 use mathlib.Core.List.{List}
-use Rattle.cards.specs.declared.record.Record.{Record}
+use Rattle.records.specs.declared.record.Record.{Record}
 use Rattle.store.specs.Room.{fresh-store}
-use Rattle.store.specs.Loading.{Loading, loaded, no-room, load, root}
+use Rattle.loading.specs.Loading.{Loading, loaded, no-room, load, root}
 
 -- What opening comes to: the places of the two roots, which are the opening pair, and the store; or a full room and the store as it stands.
 pub data Opening : Type 0 where

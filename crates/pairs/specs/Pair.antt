@@ -1,12 +1,13 @@
 -- The pair record and the table. Document 01: "A pair record has 8 bytes: left place, right place (two bytes each), number of the pair it
 -- came from (two bytes), letter, zero. The opening pair has 0 for the last three fields."
 -- Every offset of a pair's bytes stands in this file alone.
-use Prim.Native.Nat.{ℕ, zero, suc, _+_, _*_, _/_, _%_, _<_}
+use Prim.Native.Nat.{ℕ, _+_, _*_, _/_, _%_, _<_}
 use mathlib.Core.Bool.{Bool, false, _&&_, _||_}
-use mathlib.Core.List.{List, [], _∷_, _++_}
+use mathlib.Core.List.{List, [], _∷_}
 use lib.Dec.{eqb}
 use mathlib.Core.Path.{_≡_}
-use lib.ListN.{length, getD, drop}
+use lib.ListN.{length, getD}
+use Rattle.runs.specs.Runs.{item-at, first-items, run-of-items}
 use Rattle.pairs.specs.declared.pair.Pair.{Pair}
 
 -- The pair whose bytes start the list.
@@ -30,17 +31,17 @@ places-of-pair p = p .left + 65536 * p .right
 
 -- The pair numbered `at` of a run of pairs.
 abbrev pub pair-record : List ℕ → ℕ → Pair
-pair-record s at = pair-of (drop (8 * at) s)
+pair-record s at = item-at 8 pair-of s at
 
 -- The first n pairs of a run.
 unfoldable pub first-pairs : ℕ → List ℕ → List Pair
-first-pairs zero s = []
-first-pairs (suc n) s = pair-of s ∷ first-pairs n (drop 8 s)
+unfolding first-items
+first-pairs n s = first-items 8 pair-of n s
 
 -- The run of bytes that the pairs are.
 unfoldable pub run-of-pairs : List Pair → List ℕ
-run-of-pairs [] = []
-run-of-pairs (p ∷ table) = bytes-of-pair p ++ run-of-pairs table
+unfolding run-of-items
+run-of-pairs table = run-of-items bytes-of-pair table
 
 -- A pair that is not there reads as one of zeros.
 abbrev pub no-pair : Pair

@@ -4,7 +4,7 @@ use mathlib.Core.Bool.{false}
 use mathlib.Core.List.{List}
 use mathlib.Core.Path.{_≡_}
 use lib.ListN.{length}
-use Rattle.cards.specs.declared.examine.Standing.the-variants.{Good}
+use Rattle.refusals.specs.declared.Standing.the-variants.{Good}
 use Rattle.cards.specs.Examine.{pattern-card}
 use Rattle.store.specs.Room.{laid, wrong-room}
 use Rattle.pairs.specs.declared.opening.Opened.{Opened}

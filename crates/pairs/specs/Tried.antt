@@ -2,12 +2,9 @@
 use Prim.Native.Nat.{ℕ}
 use mathlib.Core.Bool.{Bool, _||_}
 use mathlib.Core.List.{List}
-use Rattle.cards.specs.Record.{records}
+use Rattle.refusals.specs.Limits.{most-letters}
+use Rattle.records.specs.Record.{records}
 use Rattle.cards.specs.Letters.{mentions, those-below}
-
--- The number of letters there can be: one for each byte.
-abbrev pub most-letters : ℕ
-most-letters = 256
 
 -- A letter record of either card has the letter c.
 abbrev pub mentioned : List ℕ → List ℕ → ℕ → Bool

@@ -1,12 +1,11 @@
 // The letters tried.
 use cards::letters::mentions;
+use refusals::limits::MOST_LETTERS;
 ghost use mathlib.Core.Path.{_≡_};
 ghost use Prim.Native.Nat.{_≤_};
 ghost use lib.ListN.{length, take};
-ghost use Rattle.pairs.specs.Tried.{most-letters, mentioned, tried};
-
-// The number of letters there can be: one for each byte.
-pub const MOST_LETTERS: usize = 256;
+ghost use Rattle.pairs.specs.Tried.{mentioned, tried};
+ghost use Rattle.refusals.specs.Limits.{most-letters};
 
 // Writes the letters of either card into `letters`, ascending, and answers how many there are.
 pub fn tried(left: &[u8], right: &[u8], letters: &mut [u8]) -> usize

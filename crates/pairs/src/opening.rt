@@ -1,13 +1,13 @@
 // Opening a call on two pattern cards: a fresh store, the left card loaded into it, then the right.
-use store::entering::Entered;
-use store::entering::enter;
-use store::loading::fresh;
+use loading::entering::Entered;
+use loading::entering::enter;
+use loading::fresh::fresh;
 ghost use mathlib.Core.Path.{_≡_};
-ghost use Rattle.cards.specs.declared.examine.Standing.the-variants.{Good};
-ghost use Rattle.cards.specs.Record.{records};
+ghost use Rattle.refusals.specs.declared.Standing.the-variants.{Good};
+ghost use Rattle.records.specs.Record.{records};
 ghost use Rattle.cards.specs.Examine.{pattern-card};
 ghost use Rattle.store.specs.Room.{store-in, places-of};
-ghost use Rattle.store.specs.Loading.{load};
+ghost use Rattle.loading.specs.Loading.{load};
 ghost use Rattle.store.specs.Good.{GoodStore};
 ghost use Rattle.pairs.specs.Opening.{right-opened, open-both};
 ghost use Rattle.pairs.specs.Told.{CanOpen, Opens};

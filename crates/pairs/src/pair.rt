@@ -1,5 +1,6 @@
 // The pair record: 8 bytes, read and laid down here and nowhere else.
-use cards::record::joined;
+use runs::two_bytes::joined;
+use runs::two_bytes::lay_two;
 ghost use mathlib.Core.Path.{_≡_};
 ghost use mathlib.Core.List.{_++_};
 ghost use Prim.Native.Nat.{_+_, _*_, _≤_};
@@ -58,12 +59,9 @@ pub fn lay(part: &mut [u8], p: Pair)
     requires { ⌜ 8 ≤ length (now part) ⌝ }
     ensures { λ _. ⌜ now (part .exit) ≡ bytes-of-pair p ++ drop 8 (now (part .entry)) ⌝ }
 {
-    part[0] = (p.left % 256) as u8;
-    part[1] = (p.left / 256) as u8;
-    part[2] = (p.right % 256) as u8;
-    part[3] = (p.right / 256) as u8;
-    part[4] = (p.origin % 256) as u8;
-    part[5] = (p.origin / 256) as u8;
+    lay_two(part, 0, p.left);
+    lay_two(part, 2, p.right);
+    lay_two(part, 4, p.origin);
     part[6] = p.letter;
     part[7] = 0;
 }

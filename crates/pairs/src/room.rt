@@ -1,10 +1,8 @@
 // The pair room's size.
 use crate::pair::PAIR;
+use refusals::limits::MOST_PAIR_ROOM;
 ghost use mathlib.Core.Path.{_≡_};
 ghost use Rattle.pairs.specs.Room.{wrong-pair-room};
-
-// The largest pair room, in bytes.
-pub const MOST_PAIR_ROOM: usize = 8192;
 
 // Number 6, of a pair room or a pair list of so many bytes.
 pub fn wrong_pair_room(size: usize) -> bool

@@ -9,7 +9,8 @@ ghost use mathlib.Core.List.{[], _∷_, _++_};
 ghost use Prim.Native.Nat.{_+_, _*_, _≤_};
 ghost use lib.ListN.{length};
 ghost use Rattle.pairs.specs.Pair.{stands-in};
-ghost use Rattle.pairs.specs.Room.{table-in, laid-pairs, TableStands, most-pairs};
+ghost use Rattle.pairs.specs.Room.{table-in, laid-pairs, TableStands};
+ghost use Rattle.refusals.specs.Limits.{most-pairs};
 
 // Whether the two places stand in the table as a pair. Two places are compared as one number.
 pub fn stands_in(room: &[u8], pairs: usize, left: u16, right: u16) -> bool

@@ -14,15 +14,7 @@ pub mod Sets
 pub mod OnePlace
 pub mod Meaning
 pub mod Making
-pub mod Fresh
-pub mod Loading
 pub mod GoodRoom
-pub mod LoadingRoom
-pub mod Entering
 pub mod SomeWord
 pub mod LegalRoom
 pub mod MergingRoom
-pub mod Cards
-pub mod FreshRoom
-pub mod OwnPlaces
-pub mod OwnCard

@@ -10,11 +10,11 @@ use mathlib.Core.Bool.{Bool, true, false, cond, _&&_, _||_}
 use mathlib.Core.List.{List, [], _∷_, _++_}
 use lib.Dec.{eqb, ltb}
 use lib.ListN.{length}
-use Rattle.cards.specs.declared.kind.Kind.{Kind}
-use Rattle.cards.specs.declared.kind.Kind.the-variants.{Nothing, EmptyWord, Letter, Choice, Sequence, Repeat, Unknown}
-use Rattle.cards.specs.declared.record.Record.{Record}
-use Rattle.cards.specs.Record.{child}
-use Rattle.cards.specs.Kind.{kind-of}
+use Rattle.records.specs.declared.kind.Kind.{Kind}
+use Rattle.records.specs.declared.kind.Kind.the-variants.{Nothing, EmptyWord, Letter, Choice, Sequence, Repeat, Unknown}
+use Rattle.records.specs.declared.record.Record.{Record}
+use Rattle.records.specs.Record.{child}
+use Rattle.records.specs.Kind.{kind-of}
 use Rattle.cards.specs.Mark.{bit, marked, has-empty}
 use Rattle.store.specs.declared.finding.Found.{Found}
 use Rattle.store.specs.declared.finding.Found.the-variants.{At, Absent}
@@ -51,10 +51,18 @@ unfoldable pub intern : ℕ → List Record → Record → Making
 unfolding find
 intern room store r = use-or-write room store r (find store r)
 
+-- "place 0 is nothing, place 1 the empty word".
+abbrev pub nothing-place : ℕ
+nothing-place = 0
+
+abbrev pub empty-word-place : ℕ
+empty-word-place = 1
+
 -- The rules, by kind and by the children's places: the rule gives a place, the record stays one, or two sets are merged.
 abbrev pub sequence-rule : ℕ → ℕ → Ruled
 sequence-rule left right =
-    cond (eqb left 0 || eqb right 0) (Gives 0) (cond (eqb left 1) (Gives right) (cond (eqb right 1) (Gives left) Stays))
+    cond (eqb left nothing-place || eqb right nothing-place) (Gives nothing-place)
+    (cond (eqb left empty-word-place) (Gives right) (cond (eqb right empty-word-place) (Gives left) Stays))
 
 abbrev pub rule : Kind → ℕ → ℕ → Ruled
 rule Nothing left right = Stays
@@ -77,31 +85,29 @@ new-record store kind letter left right =
       right = right;
     }
 
--- The members of a set.
+-- Sets. They are of one kind each, whose number is given: of the kind choice, a choice's members.
 
-abbrev pub choice-kind : ℕ
-choice-kind = 3
+-- A record is of this kind.
+abbrev pub is-kind : ℕ → Record → Bool
+is-kind kind r = eqb (r .kind) kind
 
-abbrev pub is-choice : Record → Bool
-is-choice r = eqb (r .kind) choice-kind
+-- The first member of a set, and the place of the set behind it: the left and right child of a record of this kind. A place of any other
+-- kind is its own only member, and nothing is behind it.
+abbrev pub first : ℕ → List Record → ℕ → ℕ
+first kind store place = cond (is-kind kind (child store place)) (child store place .left) place
 
--- The first member of a set, and the place of the set behind it: a choice's left and right child. A place that is no choice is its own
--- only member, and nothing is behind it.
-abbrev pub first : List Record → ℕ → ℕ
-first store place = cond (is-choice (child store place)) (child store place .left) place
-
-abbrev pub behind : List Record → ℕ → ℕ
-behind store place = cond (is-choice (child store place)) (child store place .right) 0
+abbrev pub behind : ℕ → List Record → ℕ → ℕ
+behind kind store place = cond (is-kind kind (child store place)) (child store place .right) nothing-place
 
 -- The members of a place, down the right side: nothing has none. What is behind stands lower, so a depth above the place is enough.
-unfoldable pub members-to : ℕ → List Record → ℕ → List ℕ
-members-to zero store place = []
-members-to (suc depth) store place =
-    elim (eqb place 0) [ true ↦ [] | false ↦ first store place ∷ members-to depth store (behind store place) ]
+unfoldable pub members-to : ℕ → ℕ → List Record → ℕ → List ℕ
+members-to kind zero store place = []
+members-to kind (suc depth) store place =
+    elim (eqb place nothing-place) [ true ↦ [] | false ↦ first kind store place ∷ members-to kind depth store (behind kind store place) ]
 
-unfoldable pub members : List Record → ℕ → List ℕ
+unfoldable pub members : ℕ → List Record → ℕ → List ℕ
 unfolding members-to
-members store place = members-to (suc place) store place
+members kind store place = members-to kind (suc place) store place
 
 -- A member entered among members of rising places, in its turn, and once.
 unfoldable pub entered : ℕ → List ℕ → List ℕ
@@ -115,32 +121,33 @@ unfolding entered
 merged [] ns = ns
 merged (m ∷ ms) ns = entered m (merged ms ns)
 
--- A member put before the set that was built of the later ones: where that is nothing the member is the set, and else their choice is
--- used or written.
-abbrev pub put-before : ℕ → ℕ → Making → Making
-put-before room m (placed rest store) =
-    cond (eqb rest 0) (placed m store) (intern room store (new-record store choice-kind 0 m rest))
-put-before room m (full store) = full store
+-- A member put before the set that was built of the later ones: where that is nothing the member is the set, and else the record of this kind
+-- with both as its children is used or written.
+abbrev pub put-before : ℕ → ℕ → ℕ → Making → Making
+put-before room kind m (placed rest store) =
+    cond (eqb rest nothing-place) (placed m store) (intern room store (new-record store kind 0 m rest))
+put-before room kind m (full store) = full store
 
 -- A set built from its last member backward: no member gives nothing, one gives itself.
-unfoldable pub built : ℕ → List Record → List ℕ → Making
+unfoldable pub built : ℕ → ℕ → List Record → List ℕ → Making
 unfolding intern
-built room store [] = placed 0 store
-built room store (m ∷ ms) = put-before room m (built room store ms)
+built room kind store [] = placed nothing-place store
+built room kind store (m ∷ ms) = put-before room kind m (built room kind store ms)
 
--- The choice of two places.
-unfoldable pub choice : ℕ → List Record → ℕ → ℕ → Making
+-- The set of both places' members: of the kind choice, the choice of two places.
+unfoldable pub set-of-both : ℕ → ℕ → List Record → ℕ → ℕ → Making
 unfolding members merged built
-choice room store left right = built room store (merged (members store left) (members store right))
+set-of-both room kind store left right = built room kind store (merged (members kind store left) (members kind store right))
 
+-- What the rule says, done: a place is given, the record is used or written, or the sets of its children are merged.
 abbrev pub by-rule : Ruled → ℕ → List Record → Record → Making
 by-rule (Gives place) room store r = placed place store
 by-rule Stays room store r = intern room store r
-by-rule Merges room store r = choice room store (r .left) (r .right)
+by-rule Merges room store r = set-of-both room (r .kind) store (r .left) (r .right)
 
 -- Making a record in a store, in a room of so many places.
 unfoldable pub make : ℕ → List Record → ℕ → ℕ → ℕ → ℕ → Making
-unfolding intern choice
+unfolding intern set-of-both
 make room store kind letter left right =
     by-rule (rule (kind-of kind) left right) room store (new-record store kind letter left right)
 

@@ -1,12 +1,13 @@
 -- What stands in a work room. Document 01: "Records are in card form"; "records .. placed by then stand, .. and every other byte is as lent".
 -- A store is a list of records: the record at place n is the one numbered n. Its records are the first bytes of the room, 8 for each.
-use Prim.Native.Nat.{ℕ, _*_, _/_, _%_}
+use Prim.Native.Nat.{ℕ, _%_}
 use mathlib.Core.Bool.{Bool, not, _||_}
-use mathlib.Core.List.{List, [], _∷_, _++_}
+use mathlib.Core.List.{List, [], _∷_}
 use lib.Dec.{eqb, ltb}
-use lib.ListN.{length, drop}
-use Rattle.cards.specs.declared.record.Record.{Record}
-use Rattle.cards.specs.Record.{first-records, run-of}
+use Rattle.refusals.specs.Limits.{least-room, most-room}
+use Rattle.runs.specs.Runs.{space-in, laid-items}
+use Rattle.records.specs.declared.record.Record.{Record}
+use Rattle.records.specs.Record.{first-records, run-of}
 
 -- The store of so many places in a room.
 abbrev pub store-in : List ℕ → ℕ → List Record
@@ -14,18 +15,11 @@ store-in room places = first-records places room
 
 -- The places of a room.
 abbrev pub places-of : List ℕ → ℕ
-places-of room = length room / 8
+places-of room = space-in 8 room
 
 -- The room with this store in it: its records, and every other byte as lent.
 abbrev pub laid : List Record → List ℕ → List ℕ
-laid store room = run-of store ++ drop (8 * length store) room
-
--- The smallest and the largest work room, in bytes.
-abbrev pub least-room : ℕ
-least-room = 16
-
-abbrev pub most-room : ℕ
-most-room = 32768
+laid store room = laid-items 8 run-of store room
 
 -- Number 5, "work room under 16 bytes, over 32,768, or not a multiple of 8", of a work room of so many bytes.
 abbrev pub wrong-room : ℕ → Bool

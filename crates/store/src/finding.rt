@@ -1,12 +1,12 @@
 // Finding an identical record.
-use cards::kind::Kind;
-use cards::kind::named;
-use cards::record::Record;
-use cards::record::number;
-use cards::record::number_at;
+use records::kind::columns_of;
+use records::kind::named;
+use records::record::Record;
+use records::record::number;
+use records::record::number_at;
 ghost use mathlib.Core.Path.{_≡_};
-ghost use Prim.Native.Nat.{ℕ, _<_, _≤_};
-ghost use Rattle.cards.specs.Standing.{Obeys};
+ghost use Prim.Native.Nat.{ℕ, _≤_};
+ghost use Rattle.cards.specs.Standing.{ChildField, Obeys};
 ghost use Rattle.store.specs.Room.{store-in};
 ghost use Rattle.store.specs.Making.{find};
 ghost use Rattle.store.specs.Good.{GoodStore};
@@ -32,25 +32,33 @@ pub fn find(room: &[u8], places: usize, r: Record) -> Found
     Found::Absent
 }
 
-// The first place that can hold the record, where any can: a choice, a sequence or a repeat stands above its children.
+// The first place that can hold the record, where any can: it stands above the children that its kind has.
 fn above_children(r: Record) -> usize
     ensures { λ n. ⌜ ((k : ℕ) → Obeys k r → (n ≤ k) × Obeys n r) ⌝ }
 {
-    match named(r.kind) {
-        Kind::Choice => above_both(r.left, r.right),
-        Kind::Sequence => above_both(r.left, r.right),
-        Kind::Repeat => r.left as usize + 1,
-        _ => 0,
-    }
+    let line = columns_of(named(r.kind));
+    higher(
+        above_child(line.left, r.left),
+        above_child(line.right, r.right),
+    )
 }
 
-// The first place above two places.
-fn above_both(left: u16, right: u16) -> usize
-    ensures { λ n. ⌜ (left < n) × (right < n) × ((k : ℕ) → left < k → right < k → n ≤ k) ⌝ }
+// The first place at which a field is right, where there is one: above the child that it names, and any place where it names none.
+fn above_child(child: bool, field: u16) -> usize
+    ensures { λ n. ⌜ ((k : ℕ) → ChildField child k field → (n ≤ k) × ChildField child n field) ⌝ }
 {
-    if left < right {
-        right as usize + 1
-    } else {
-        left as usize + 1
+    if child {
+        return field as usize + 1;
     }
+    0
+}
+
+// The higher of two places.
+fn higher(one: usize, other: usize) -> usize
+    ensures { λ n. ⌜ (one ≤ n) × (other ≤ n) × ((k : ℕ) → one ≤ k → other ≤ k → n ≤ k) ⌝ }
+{
+    if one < other {
+        return other;
+    }
+    one
 }

@@ -1,29 +1,18 @@
-// Making a record: the rules, then finding, then writing.
-use crate::finding::Found;
-use crate::finding::find;
-use crate::merging::choice;
-use crate::writing::write;
-use cards::examine::as_mark;
-use cards::examine::has_empty;
-use cards::kind::Kind;
-use cards::kind::named;
-use cards::record::RECORD;
-use cards::record::Record;
-use cards::record::read;
+// Making a record: by a rule, as a record, or as a set of two merged.
+use crate::interning::Made;
+use crate::interning::intern;
+use crate::interning::new_record;
+use crate::merging::set_of_both;
+use crate::room::EMPTY_WORD_PLACE;
+use crate::room::NOTHING_PLACE;
+use records::kind::Kind;
+use records::kind::named;
 ghost use mathlib.Core.Path.{_≡_};
 ghost use Prim.Native.Nat.{_<_};
-ghost use Rattle.cards.specs.Record.{child};
-ghost use Rattle.cards.specs.Mark.{marked};
 ghost use Rattle.store.specs.Room.{store-in, places-of, laid};
-ghost use Rattle.store.specs.Making.{sequence-rule, rule, new-record, intern, make, after};
+ghost use Rattle.store.specs.Making.{sequence-rule, rule, make, after};
 ghost use Rattle.store.specs.Told.{told-making};
 ghost use Rattle.store.specs.Good.{GoodStore};
-
-// The record's place and the places then taken, or a full room and the places taken.
-pub enum Made {
-    Placed(usize, usize),
-    Full(usize),
-}
 
 // A rule gives a place, the record stays one, or two sets are merged.
 pub enum Ruled {
@@ -45,63 +34,8 @@ pub fn make(room: &mut [u8], places: usize, kind: u8, letter: u8, left: usize, r
             let r = new_record(room, places, kind, letter, left, right);
             intern(room, places, r)
         }
-        Ruled::Merges => choice(room, places, left, right),
+        Ruled::Merges => set_of_both(room, places, kind, left, right),
     }
-}
-
-// The record is used where it is found, and else written at the first free place.
-pub fn intern(room: &mut [u8], places: usize, r: Record) -> Made
-    requires { ⌜ GoodStore (now room) places ⌝ }
-    ensures { λ m. ⌜ m ≡ told-making (intern (places-of (now (room .entry))) (store-in (now (room .entry)) places) r) ⌝ }
-    ensures { λ _. ⌜ now (room .exit) ≡ laid (after (intern (places-of (now (room .entry))) (store-in (now (room .entry)) places) r)) (now (room .entry)) ⌝ }
-{
-    let found = find(room, places, r);
-    if let Found::At(place) = found {
-        return Made::Placed(place, places);
-    }
-    if places < room.len() / RECORD {
-        write(room, places, r);
-        return Made::Placed(places, places + 1);
-    }
-    Made::Full(places)
-}
-
-// The record of this kind, letter and children, with its mark.
-pub fn new_record(
-    room: &[u8],
-    places: usize,
-    kind: u8,
-    letter: u8,
-    left: usize,
-    right: usize,
-) -> Record
-    requires { ⌜ GoodStore (now room) places ⌝ }
-    requires { ⌜ (left < places) × (right < places) ⌝ }
-    ensures { λ r. ⌜ r ≡ new-record (store-in (now (room .entry)) places) kind letter left right ⌝ }
-{
-    let mark = as_mark(has_empty(
-        named(kind),
-        marked_at(room, places, left),
-        marked_at(room, places, right),
-    ));
-    Record {
-        kind,
-        letter,
-        mark,
-        fourth: 0,
-        left: left as u16,
-        right: right as u16,
-    }
-}
-
-// What the mark of the record at a place says.
-pub fn marked_at(room: &[u8], places: usize, place: usize) -> bool
-    requires { ⌜ GoodStore (now room) places ⌝ }
-    requires { ⌜ place < places ⌝ }
-    ensures { λ t. ⌜ t ≡ marked (child (store-in (now (room .entry)) places) place) ⌝ }
-{
-    let r = read(room, place);
-    r.mark == 1
 }
 
 // The rules, by kind.
@@ -123,13 +57,13 @@ fn rule(kind: Kind, left: usize, right: usize) -> Ruled
 fn sequence_rule(left: usize, right: usize) -> Ruled
     ensures { λ r. ⌜ r ≡ sequence-rule left right ⌝ }
 {
-    if (left == 0) | (right == 0) {
-        return Ruled::Gives(0);
+    if (left == NOTHING_PLACE) | (right == NOTHING_PLACE) {
+        return Ruled::Gives(NOTHING_PLACE);
     }
-    if left == 1 {
+    if left == EMPTY_WORD_PLACE {
         return Ruled::Gives(right);
     }
-    if right == 1 {
+    if right == EMPTY_WORD_PLACE {
         return Ruled::Gives(left);
     }
     Ruled::Stays

@@ -1,19 +1,17 @@
-// Making a choice: two sets, merged by rising place, each member once, and built from the last member backward.
-use crate::making::Made;
-use crate::making::intern;
-use crate::making::new_record;
-use cards::record::read;
+// Making a set: two of its kind, merged by rising place, each member once, and built from the last member backward.
+use crate::interning::Made;
+use crate::interning::intern;
+use crate::interning::new_record;
+use crate::room::NOTHING_PLACE;
+use records::record::read;
 ghost use mathlib.Core.Path.{_≡_};
 ghost use mathlib.Core.Bool.{cond};
 ghost use Prim.Native.Nat.{_<_};
 ghost use lib.Dec.{eqb, ltb};
 ghost use Rattle.store.specs.Room.{store-in, places-of, laid};
-ghost use Rattle.store.specs.Making.{placed, put-before, choice, after};
+ghost use Rattle.store.specs.Making.{placed, put-before, set-of-both, after};
 ghost use Rattle.store.specs.Told.{told-making, side};
-ghost use Rattle.store.specs.Good.{GoodStore};
-
-// The number of the kind choice.
-const CHOICE: u8 = 3;
+ghost use Rattle.store.specs.Good.{SetKind, GoodStore};
 
 // A set whose record was read: its place, its first member and the place of the set behind that.
 pub struct Side {
@@ -22,26 +20,27 @@ pub struct Side {
     pub behind: usize,
 }
 
-// Making the choice of two places.
-pub fn choice(room: &mut [u8], places: usize, left: usize, right: usize) -> Made
+// Making the set of both places' members.
+pub fn set_of_both(room: &mut [u8], places: usize, kind: u8, left: usize, right: usize) -> Made
     requires { ⌜ GoodStore (now room) places ⌝ }
     requires { ⌜ (left < places) × (right < places) ⌝ }
-    ensures { λ m. ⌜ m ≡ told-making (choice (places-of (now (room .entry))) (store-in (now (room .entry)) places) left right) ⌝ }
-    ensures { λ _. ⌜ now (room .exit) ≡ laid (after (choice (places-of (now (room .entry))) (store-in (now (room .entry)) places) left right)) (now (room .entry)) ⌝ }
+    requires { ⌜ SetKind kind ⌝ }
+    ensures { λ m. ⌜ m ≡ told-making (set-of-both (places-of (now (room .entry))) kind (store-in (now (room .entry)) places) left right) ⌝ }
+    ensures { λ _. ⌜ now (room .exit) ≡ laid (after (set-of-both (places-of (now (room .entry))) kind (store-in (now (room .entry)) places) left right)) (now (room .entry)) ⌝ }
 {
-    let one = read_side(room, places, left);
-    let other = read_side(room, places, right);
-    merge(room, places, one, other)
+    let one = read_side(room, places, kind, left);
+    let other = read_side(room, places, kind, right);
+    merge(room, places, kind, one, other)
 }
 
 // The set at a place: its record is read here, and not again.
-fn read_side(room: &[u8], places: usize, place: usize) -> Side
+fn read_side(room: &[u8], places: usize, kind: u8, place: usize) -> Side
     requires { ⌜ GoodStore (now room) places ⌝ }
     requires { ⌜ place < places ⌝ }
-    ensures { λ s. ⌜ s ≡ side (store-in (now (room .entry)) places) place ⌝ }
+    ensures { λ s. ⌜ s ≡ side kind (store-in (now (room .entry)) places) place ⌝ }
 {
     let r = read(room, place);
-    if r.kind == CHOICE {
+    if r.kind == kind {
         return Side {
             place,
             first: r.left as usize,
@@ -51,59 +50,60 @@ fn read_side(room: &[u8], places: usize, place: usize) -> Side
     Side {
         place,
         first: place,
-        behind: 0,
+        behind: NOTHING_PLACE,
     }
 }
 
 // Two sets merged and built. Where one is used up, or both are one, the other stands already.
-fn merge(room: &mut [u8], places: usize, left: Side, right: Side) -> Made
+fn merge(room: &mut [u8], places: usize, kind: u8, left: Side, right: Side) -> Made
     requires { ⌜ GoodStore (now room) places ⌝ }
     requires { ⌜ (left .place < places) × (right .place < places) ⌝ }
-    requires { ⌜ left ≡ side (store-in (now room) places) (left .place) ⌝ }
-    requires { ⌜ right ≡ side (store-in (now room) places) (right .place) ⌝ }
-    ensures { λ m. ⌜ m ≡ told-making (choice (places-of (now (room .entry))) (store-in (now (room .entry)) places) (left .place) (right .place)) ⌝ }
-    ensures { λ _. ⌜ now (room .exit) ≡ laid (after (choice (places-of (now (room .entry))) (store-in (now (room .entry)) places) (left .place) (right .place))) (now (room .entry)) ⌝ }
+    requires { ⌜ left ≡ side kind (store-in (now room) places) (left .place) ⌝ }
+    requires { ⌜ right ≡ side kind (store-in (now room) places) (right .place) ⌝ }
+    requires { ⌜ SetKind kind ⌝ }
+    ensures { λ m. ⌜ m ≡ told-making (set-of-both (places-of (now (room .entry))) kind (store-in (now (room .entry)) places) (left .place) (right .place)) ⌝ }
+    ensures { λ _. ⌜ now (room .exit) ≡ laid (after (set-of-both (places-of (now (room .entry))) kind (store-in (now (room .entry)) places) (left .place) (right .place))) (now (room .entry)) ⌝ }
 {
-    if (left.place == 0) | (left.place == right.place) {
+    if (left.place == NOTHING_PLACE) | (left.place == right.place) {
         return Made::Placed(right.place, places);
     }
-    if right.place == 0 {
+    if right.place == NOTHING_PLACE {
         return Made::Placed(left.place, places);
     }
     let member = lower(left.first, right.first);
-    let one = past(room, places, left, member);
-    let other = past(room, places, right, member);
-    let rest = merge(room, places, one, other);
+    let one = past(room, places, kind, left, member);
+    let other = past(room, places, kind, right, member);
+    let rest = merge(room, places, kind, one, other);
     match rest {
-        Made::Placed(place, taken) => put_before(room, taken, member, place),
+        Made::Placed(place, taken) => put_before(room, taken, kind, member, place),
         Made::Full(taken) => Made::Full(taken),
     }
 }
 
 // What is left of a set behind a member: the set behind its first where that is the member, and else the set as it stands.
-fn past(room: &[u8], places: usize, set: Side, member: usize) -> Side
+fn past(room: &[u8], places: usize, kind: u8, set: Side, member: usize) -> Side
     requires { ⌜ GoodStore (now room) places ⌝ }
     requires { ⌜ set .place < places ⌝ }
-    requires { ⌜ set ≡ side (store-in (now room) places) (set .place) ⌝ }
-    ensures { λ s. ⌜ s ≡ side (store-in (now (room .entry)) places) (cond (eqb (set .first) member) (set .behind) (set .place)) ⌝ }
+    requires { ⌜ set ≡ side kind (store-in (now room) places) (set .place) ⌝ }
+    ensures { λ s. ⌜ s ≡ side kind (store-in (now (room .entry)) places) (cond (eqb (set .first) member) (set .behind) (set .place)) ⌝ }
 {
     if set.first == member {
-        return read_side(room, places, set.behind);
+        return read_side(room, places, kind, set.behind);
     }
     set
 }
 
-// A member before the set of the later ones: where that is nothing the member is the set, and else their choice is used or written.
-fn put_before(room: &mut [u8], places: usize, member: usize, rest: usize) -> Made
+// A member before the set of the later ones: where that is nothing the member is the set, and else the record of both is used or written.
+fn put_before(room: &mut [u8], places: usize, kind: u8, member: usize, rest: usize) -> Made
     requires { ⌜ GoodStore (now room) places ⌝ }
     requires { ⌜ (member < places) × (rest < places) ⌝ }
-    ensures { λ m. ⌜ m ≡ told-making (put-before (places-of (now (room .entry))) member (placed rest (store-in (now (room .entry)) places))) ⌝ }
-    ensures { λ _. ⌜ now (room .exit) ≡ laid (after (put-before (places-of (now (room .entry))) member (placed rest (store-in (now (room .entry)) places)))) (now (room .entry)) ⌝ }
+    ensures { λ m. ⌜ m ≡ told-making (put-before (places-of (now (room .entry))) kind member (placed rest (store-in (now (room .entry)) places))) ⌝ }
+    ensures { λ _. ⌜ now (room .exit) ≡ laid (after (put-before (places-of (now (room .entry))) kind member (placed rest (store-in (now (room .entry)) places)))) (now (room .entry)) ⌝ }
 {
-    if rest == 0 {
+    if rest == NOTHING_PLACE {
         return Made::Placed(member, places);
     }
-    let r = new_record(room, places, CHOICE, 0, member, rest);
+    let r = new_record(room, places, kind, 0, member, rest);
     intern(room, places, r)
 }
 

@@ -1,12 +1,14 @@
-// The work room's size.
-use cards::record::RECORD;
+// The work room: its size, and the two places that every store begins with.
+use records::record::RECORD;
+use refusals::limits::LEAST_ROOM;
+use refusals::limits::MOST_ROOM;
 ghost use mathlib.Core.Path.{_≡_};
 ghost use Rattle.store.specs.Room.{wrong-room};
 
-// The smallest and the largest work room, in bytes.
-pub const LEAST_ROOM: usize = 16;
+// The place of nothing, and that of the empty word.
+pub const NOTHING_PLACE: usize = 0;
 
-pub const MOST_ROOM: usize = 32768;
+pub const EMPTY_WORD_PLACE: usize = 1;
 
 // Number 5, of a work room of so many bytes.
 pub fn wrong_room(size: usize) -> bool

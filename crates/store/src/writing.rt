@@ -1,13 +1,14 @@
 // Writing a new record at the first free place.
-use cards::record::RECORD;
-use cards::record::Record;
-use cards::record::lay;
+use records::record::RECORD;
+use records::record::Record;
+use records::record::lay;
 ghost use mathlib.Core.Path.{_≡_};
 ghost use mathlib.Core.List.{[], _∷_, _++_};
 ghost use Prim.Native.Nat.{_+_, _*_, _≤_};
 ghost use lib.ListN.{length};
 ghost use Rattle.store.specs.Room.{store-in, laid};
-ghost use Rattle.store.specs.Good.{GoodStore, most-places};
+ghost use Rattle.store.specs.Good.{GoodStore};
+ghost use Rattle.refusals.specs.Limits.{most-places};
 
 // The record writer is lent the part of the room that starts at the first free place.
 pub fn write(room: &mut [u8], places: usize, r: Record)

@@ -3,26 +3,30 @@
 use Prim.Native.Nat.{ℕ, zero, suc, _+_, _/_, _%_, _<_, _≤_}
 use native.Mathlib.Decide.{decLt}
 use native.Mathlib.Omega.{arith}
-use mathlib.Core.Bool.{Bool, true, false, not, _&&_, _||_, false≢true}
+use mathlib.Core.Bool.{Bool, true, false, not, _||_, false≢true}
 use mathlib.Core.List.{List, []}
 use mathlib.Core.Path.{_≡_, refl, sym, _∙_, ap, subst}
 use lib.Dec.{eqb, ltb}
 use lib.ListN.{length, drop, drop-of-length-le}
 use lib.Seq.{drop-cons}
-use borrow.Author.Tests.{eqb-true, eqb-false, eq-eqb, ne-eqb, ltb-true, ltb-false, lt-ltb, le-ltb}
+use borrow.Author.Tests.{eqb-true, eqb-false, eq-eqb, ne-eqb, ltb-false, le-ltb}
 use Rattle.language.specs.Language.{Pattern, language}
 use Rattle.language.specs.Laws.Tests.{Tells, and-left, and-right, and-both}
 use Rattle.language.specs.Laws.Derivative.{nullable, nullable-right}
-use Rattle.cards.specs.declared.record.Record.{Record}
-use Rattle.cards.specs.declared.examine.Standing.{Standing}
-use Rattle.cards.specs.declared.examine.Standing.the-variants.{Good, Refused}
-use Rattle.cards.specs.Record.{records, child, no-record}
-use Rattle.cards.specs.Kind.{kind-of}
+use Rattle.records.specs.declared.kind.Kind.{Kind}
+use Rattle.records.specs.declared.kind.Kind.the-variants.{Nothing, EmptyWord, Letter, Choice, Sequence, Repeat, Unknown}
+use Rattle.records.specs.declared.record.Record.{Record}
+use Rattle.refusals.specs.declared.Standing.{Standing}
+use Rattle.refusals.specs.declared.Standing.the-variants.{Good, Refused}
+use Rattle.records.specs.Record.{records, child, no-record}
+use Rattle.records.specs.Kind.{kind-of, columns}
 use Rattle.cards.specs.Mark.{bit, marked, has-empty}
-use Rattle.cards.specs.Examine.{_then_, wrong-length, obeys-line, obeys, mark-right, record-standing, records-standing, examined}
-use Rattle.cards.specs.Meaning.{record-pattern, patterns, numbered}
-use Rattle.cards.specs.Standing.{RightLength, Line, nothing, empty-word, letter, choice, sequence, repeat, Obeys, TrueMark, one, zero as no-mark, MarkRight, Right, Stands, by-1, by-2, by-3, in-good-standing}
-use Rattle.cards.specs.Laws.Record.{length-records}
+use Rattle.cards.specs.Examine.{wrong-length, obeys-line, obeys, mark-right, record-standing, records-standing, examined}
+use Rattle.refusals.specs.Order.{_then_}
+use Rattle.cards.specs.Meaning.{operator, record-pattern, patterns, numbered}
+use Rattle.cards.specs.Standing.{RightLength, Line, Obeys, TrueMark, one, zero as no-mark, MarkRight, Right, Stands, by-1, by-2, by-3, in-good-standing}
+use Rattle.records.specs.Laws.Record.{length-records}
+use Rattle.cards.specs.Laws.Line.{line-right, left-child, right-child}
 use Rattle.cards.specs.Laws.Meaning.{pattern-of-record}
 
 -- Number 1.
@@ -48,51 +52,14 @@ not-right-length most size h =
 
 -- Number 2.
 
--- A field is 0, or below a number, by its test.
-module _ (l a b n : ℕ) where
-  three : (t u v : Bool) → t && u && v ≡ true → (t ≡ true) × (u ≡ true) × (v ≡ true)
-  three t u v e = (and-left t u (and-left (t && u) v e), and-right t u (and-left (t && u) v e), and-right (t && u) v e)
-
-  no-child : eqb l 0 && eqb a 0 && eqb b 0 ≡ true → (l ≡ 0) × (a ≡ 0) × (b ≡ 0)
-  no-child e = let t = three (eqb l 0) (eqb a 0) (eqb b 0) e in (eqb-true l 0 (t .0), eqb-true a 0 (t .1), eqb-true b 0 (t .2))
-
-  one-child : eqb l 0 && ltb a n && eqb b 0 ≡ true → (l ≡ 0) × (a < n) × (b ≡ 0)
-  one-child e = let t = three (eqb l 0) (ltb a n) (eqb b 0) e in (eqb-true l 0 (t .0), ltb-true a n (t .1), eqb-true b 0 (t .2))
-
-  two-children : eqb l 0 && ltb a n && ltb b n ≡ true → (l ≡ 0) × (a < n) × (b < n)
-  two-children e = let t = three (eqb l 0) (ltb a n) (ltb b n) e in (eqb-true l 0 (t .0), ltb-true a n (t .1), ltb-true b n (t .2))
-
-line-sound : (at : ℕ) (r : Record) (k : ℕ) → r .kind ≡ k → obeys-line (kind-of k) at r ≡ true → Line at r
-line-sound at r zero e t = let z = no-child (r .letter) (r .left) (r .right) at t in nothing e (z .0) (z .1) (z .2)
-line-sound at r (suc zero) e t = let z = no-child (r .letter) (r .left) (r .right) at t in empty-word e (z .0) (z .1) (z .2)
-line-sound at r (suc (suc zero)) e t =
-    letter e
-    (eqb-true (r .left) 0 (and-left (eqb (r .left) 0) (eqb (r .right) 0) t))
-    (eqb-true (r .right) 0 (and-right (eqb (r .left) 0) (eqb (r .right) 0) t))
-line-sound at r (suc (suc (suc zero))) e t = let z = two-children (r .letter) (r .left) (r .right) at t in choice e (z .0) (z .1) (z .2)
-line-sound at r (suc (suc (suc (suc zero)))) e t = let z = two-children (r .letter) (r .left) (r .right) at t in sequence e (z .0) (z .1) (z .2)
-line-sound at r (suc (suc (suc (suc (suc zero))))) e t = let z = one-child (r .letter) (r .left) (r .right) at t in repeat e (z .0) (z .1) (z .2)
-line-sound at r (suc (suc (suc (suc (suc (suc k)))))) e t = absurd (false≢true t)
-
-line-complete : (at : ℕ) (r : Record) → Line at r → obeys-line (kind-of (r .kind)) at r ≡ true
-line-complete at r (nothing k a b c) = rw k (and-both (and-both (eq-eqb _ _ a) (eq-eqb _ _ b)) (eq-eqb _ _ c))
-line-complete at r (empty-word k a b c) = rw k (and-both (and-both (eq-eqb _ _ a) (eq-eqb _ _ b)) (eq-eqb _ _ c))
-line-complete at r (letter k a b) = rw k (and-both (eq-eqb _ _ a) (eq-eqb _ _ b))
-line-complete at r (choice k a b c) = rw k (and-both (and-both (eq-eqb _ _ a) (lt-ltb _ _ b)) (lt-ltb _ _ c))
-line-complete at r (sequence k a b c) = rw k (and-both (and-both (eq-eqb _ _ a) (lt-ltb _ _ b)) (lt-ltb _ _ c))
-line-complete at r (repeat k a b c) = rw k (and-both (and-both (eq-eqb _ _ a) (lt-ltb _ _ b)) (eq-eqb _ _ c))
-
 pub obeys-right : (at : ℕ) (r : Record) → Tells (obeys at r) (Obeys at r)
 obeys-right at r =
     let fourth = eqb (r .fourth) 0 in
-    let line = obeys-line (kind-of (r .kind)) at r in
+    let line = obeys-line (columns (kind-of (r .kind))) at r in
+    let tells = line-right (columns (kind-of (r .kind))) at r in
     record {
-      sound = λ t.
-          record {
-            fourth = eqb-true (r .fourth) 0 (and-left fourth line t);
-            line = line-sound at r (r .kind) refl (and-right fourth line t);
-          };
-      complete = λ h. and-both (eq-eqb (r .fourth) 0 (h .fourth)) (line-complete at r (h .line));
+      sound = λ t. record { fourth = eqb-true (r .fourth) 0 (and-left fourth line t); line = tells .sound (and-right fourth line t) };
+      complete = λ h. and-both (eq-eqb (r .fourth) 0 (h .fourth)) (tells .complete (h .line));
     }
 
 -- Number 3.
@@ -117,17 +84,26 @@ pub marked-bit : (r : Record) (b : Bool) → r .mark ≡ bit b → marked r ≡ 
 marked-bit r true e = rw e
 marked-bit r false e = rw e
 
+-- What a record's mark has to say is the empty-word test of its operator, where the marks of the children that its kind has say theirs.
+has-empty-nullable : (k : Kind) (c : ℕ) (p q : Pattern) {a b : Bool} → (columns k .left ≡ true → a ≡ nullable p) → (columns k .right ≡ true → b ≡ nullable q)
+    → has-empty k a b ≡ nullable (operator k c p q)
+unfolding nullable
+has-empty-nullable Nothing c p q e f = refl
+has-empty-nullable EmptyWord c p q e f = refl
+has-empty-nullable Letter c p q e f = refl
+has-empty-nullable Choice c p q e f = rw (e refl, f refl)
+has-empty-nullable Sequence c p q e f = rw (e refl, f refl)
+has-empty-nullable Repeat c p q e f = refl
+has-empty-nullable Unknown c p q e f = refl
+
 -- Where the marks before tell the empty-word test of their patterns, so does the mark that a record has to have.
 pub has-empty-right : (rs : List Record) (ps : List Pattern) (at : ℕ) → ((i : ℕ) → i < at → marked (child rs i) ≡ nullable (numbered ps i))
     → (r : Record) → Line at r
     → has-empty (kind-of (r .kind)) (marked (child rs (r .left))) (marked (child rs (r .right))) ≡ nullable (record-pattern ps r)
-unfolding nullable
-has-empty-right rs ps at before r (nothing k _ _ _) = rw k
-has-empty-right rs ps at before r (empty-word k _ _ _) = rw k
-has-empty-right rs ps at before r (letter k _ _) = rw k
-has-empty-right rs ps at before r (choice k _ m n) = rw (k, before (r .left) m, before (r .right) n)
-has-empty-right rs ps at before r (sequence k _ m n) = rw (k, before (r .left) m, before (r .right) n)
-has-empty-right rs ps at before r (repeat k _ m _) = rw k
+has-empty-right rs ps at before r o =
+    has-empty-nullable (kind-of (r .kind)) (r .letter) (numbered ps (r .left)) (numbered ps (r .right))
+    (λ e. before (r .left) (left-child o e))
+    (λ e. before (r .right) (right-child o e))
 
 -- In a card in which the records before are right, the mark that a record has to have is the empty-word test of its pattern.
 module _ (rs : List Record) (at : ℕ) (l : at < length rs) (before : (i : ℕ) → i < at → Right rs i) where
@@ -275,7 +251,17 @@ module _ (most : ℕ) (card : List ℕ) where
       ∙ passed (length card / 8) (omega arith) all
       ∙ standing-end card (length card / 8) (omega arith))
 
-  -- In good standing every record is right ..
+  -- In good standing the length is right ..
+  pub good-length : examined most card ≡ Good → RightLength most (length card)
+  good-length e = go e examined-right
+    where
+      go : {s : Standing} → s ≡ Good → Stands most card s → RightLength most (length card)
+      go e (by-1 n) = absurd (refused-not-good e)
+      go e (by-2 h _ _ _ _) = h
+      go e (by-3 h _ _ _ _ _) = h
+      go e (in-good-standing h _) = h
+
+  -- .. every record is right ..
   pub good-right : examined most card ≡ Good → (at : ℕ) → at < length card / 8 → Right (records card) at
   good-right e = go e examined-right
     where

@@ -6,8 +6,8 @@ use mathlib.Core.List.{List, [], _∷_, _++_}
 use mathlib.Core.Path.{_≡_, refl, sym, _∙_, ap}
 use lib.ListN.{length, getD, take, drop, length-append, length-take, take-append-drop, List·getD-append}
 use lib.Seq.{getD-append-seam}
-use Rattle.cards.specs.declared.record.Record.{Record}
-use Rattle.cards.specs.Record.{child}
+use Rattle.records.specs.declared.record.Record.{Record}
+use Rattle.records.specs.Record.{child}
 use Rattle.cards.specs.InOrder.{in-order-after, in-order}
 
 module _ {A : Type 0} (value : List A → Record → A) where

@@ -8,20 +8,22 @@ use mathlib.Core.List.{List, [], _∷_, _++_, append-nil, List·Memᴰ·head, Li
 use mathlib.Core.Logic.{⊎-elim}
 use mathlib.Core.Path.{_≡_, refl, sym, _∙_, ap}
 use borrow.Author.Tests.{eq-eqb, eqb-true}
+use lib.Dec.{eqb}
 use lib.ListN.{length}
 use Rattle.language.specs.Word.{Bytes, Listed}
 use Rattle.language.specs.Language.{Pattern}
-use Rattle.language.specs.Laws.Tests.{Tells}
+use Rattle.language.specs.Laws.Tests.{Tells, and-left, and-right}
 use Rattle.language.specs.Laws.Atoms.{atoms}
-use Rattle.cards.specs.declared.kind.Kind.{Kind}
-use Rattle.cards.specs.declared.kind.Kind.the-variants.{Nothing, EmptyWord, Letter, Choice, Sequence, Repeat, Unknown}
-use Rattle.cards.specs.declared.record.Record.{Record}
-use Rattle.cards.specs.Record.{records, child}
-use Rattle.cards.specs.Kind.{kind-of}
+use Rattle.records.specs.declared.kind.Kind.{Kind}
+use Rattle.records.specs.declared.kind.Kind.the-variants.{Nothing, EmptyWord, Letter, Choice, Sequence, Repeat, Unknown}
+use Rattle.records.specs.declared.record.Record.{Record}
+use Rattle.records.specs.Record.{records, child}
+use Rattle.records.specs.Kind.{kind-of, columns}
 use Rattle.cards.specs.InOrder.{in-order-after, in-order}
 use Rattle.cards.specs.Meaning.{operator, numbered, record-pattern, patterns}
-use Rattle.cards.specs.Laws.Record.{record-at-place, length-records, byte-at, bytes-drop}
+use Rattle.records.specs.Laws.Record.{record-at-place, length-records, byte-at, bytes-drop}
 use Rattle.cards.specs.Letters.{letter-of, mentions, those-below, letters}
+use Rattle.cards.specs.Laws.Table.{letter-number}
 
 -- The numbers below n for which a test holds.
 
@@ -92,15 +94,6 @@ pub record Mentioned (rs : List Record) (c : ℕ) : Type 0 where
   pub kind : child rs at .kind ≡ 2
   pub letter : child rs at .letter ≡ c
 
-letter-of-sound : (k l c : ℕ) → letter-of (kind-of k) l c ≡ true → (k ≡ 2) × (l ≡ c)
-letter-of-sound zero l c e = absurd (false≢true e)
-letter-of-sound (suc zero) l c e = absurd (false≢true e)
-letter-of-sound (suc (suc zero)) l c e = (refl, eqb-true l c e)
-letter-of-sound (suc (suc (suc zero))) l c e = absurd (false≢true e)
-letter-of-sound (suc (suc (suc (suc zero)))) l c e = absurd (false≢true e)
-letter-of-sound (suc (suc (suc (suc (suc zero))))) l c e = absurd (false≢true e)
-letter-of-sound (suc (suc (suc (suc (suc (suc k)))))) l c e = absurd (false≢true e)
-
 mentions-sound : (rs : List Record) (c : ℕ) → mentions rs c ≡ true → Mentioned rs c
 unfolding mentions
 mentions-sound [] c e = absurd (false≢true e)
@@ -108,13 +101,15 @@ mentions-sound (r ∷ rs) c e = go (letter-of (kind-of (r .kind)) (r .letter) c)
   where
     go : (b : Bool) → letter-of (kind-of (r .kind)) (r .letter) c ≡ b → (mentions rs c ≡ true → Mentioned rs c) → b || mentions rs c ≡ true → Mentioned (r ∷ rs) c
     go true f later g =
-        let h = letter-of-sound (r .kind) (r .letter) c f in
-        record { at = 0; within = omega arith; kind = h .0; letter = h .1 }
+        let has = columns (kind-of (r .kind)) .letter in
+        let same = eqb (r .letter) c in
+        record { at = 0; within = omega arith; kind = letter-number (r .kind) (and-left has same f); letter = eqb-true (r .letter) c (and-right has same f) }
     go false f later g =
         let m = later g in
         record { at = suc (m .at); within = suc-le-suc (m .within); kind = m .kind; letter = m .letter }
 
-mentions-complete : (rs : List Record) (c at : ℕ) → at < length rs → child rs at .kind ≡ 2 → child rs at .letter ≡ c → mentions rs c ≡ true
+mentions-complete : (rs : List Record) (c at : ℕ) → at < length rs → child rs at .kind ≡ 2 → child rs at .letter ≡ c
+    → mentions rs c ≡ true
 unfolding mentions
 mentions-complete [] c at l e f = absurd (omega arith)
 mentions-complete (r ∷ rs) c zero l e f = rw (e, eq-eqb (r .letter) c f)

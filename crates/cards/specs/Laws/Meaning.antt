@@ -1,14 +1,19 @@
 -- The patterns of a list of records: each stays as it is when records are added at the end, and is its record's operator over
 -- the patterns of its children, where those stand lower.
 use Prim.Native.Nat.{ℕ, _<_}
+use mathlib.Core.Bool.{true}
 use mathlib.Core.List.{List, [], _∷_, _++_}
-use mathlib.Core.Path.{_≡_, _∙_}
+use mathlib.Core.Path.{_≡_, refl, _∙_, ap, ap₂}
 use lib.ListN.{length, take}
-use Rattle.language.specs.Language.{nothing as no-pattern}
-use Rattle.cards.specs.declared.record.Record.{Record}
-use Rattle.cards.specs.Record.{child}
-use Rattle.cards.specs.Meaning.{numbered, record-pattern, patterns}
-use Rattle.cards.specs.Standing.{Line, nothing, empty-word, letter, choice, sequence, repeat}
+use Rattle.language.specs.Language.{Pattern, nothing as no-pattern}
+use Rattle.records.specs.declared.kind.Kind.{Kind}
+use Rattle.records.specs.declared.kind.Kind.the-variants.{Nothing, EmptyWord, Letter, Choice, Sequence, Repeat, Unknown}
+use Rattle.records.specs.declared.record.Record.{Record}
+use Rattle.records.specs.Record.{child}
+use Rattle.records.specs.Kind.{kind-of, columns}
+use Rattle.cards.specs.Meaning.{operator, numbered, record-pattern, patterns}
+use Rattle.cards.specs.Standing.{Line}
+use Rattle.cards.specs.Laws.Line.{left-child, right-child}
 use Rattle.cards.specs.Laws.InOrder.{in-order-more, length-in-order, value-kept, value-at, before-kept}
 
 -- One record more is one pattern more.
@@ -22,18 +27,25 @@ length-patterns = length-in-order record-pattern
 pub pattern-kept : (rs more : List Record) (at : ℕ) → at < length rs → numbered (patterns (rs ++ more)) at ≡ numbered (patterns rs) at
 pattern-kept = value-kept record-pattern no-pattern
 
+-- An operator goes by the children that its kind has, and by no other.
+operator-same : (k : Kind) (c : ℕ) {p p′ q q′ : Pattern} → (columns k .left ≡ true → p ≡ p′) → (columns k .right ≡ true → q ≡ q′)
+    → operator k c p q ≡ operator k c p′ q′
+operator-same Nothing c e f = refl
+operator-same EmptyWord c e f = refl
+operator-same Letter c e f = refl
+operator-same Choice c e f = ap₂ (operator Choice c) (e refl) (f refl)
+operator-same Sequence c e f = ap₂ (operator Sequence c) (e refl) (f refl)
+operator-same Repeat c {q = q} e f = ap (λ (p : Pattern). operator Repeat c p q) (e refl)
+operator-same Unknown c e f = refl
+
 -- A record's pattern is its operator over its children's patterns, where the record obeys the kind table.
 pub pattern-of-record : (rs : List Record) (at : ℕ) → at < length rs → Line at (child rs at)
     → numbered (patterns rs) at ≡ record-pattern (patterns rs) (child rs at)
-pattern-of-record rs at l o = value-at record-pattern no-pattern rs at l ∙ go o
+pattern-of-record rs at l o =
+    value-at record-pattern no-pattern rs at l
+    ∙ operator-same (kind-of (child rs at .kind)) (child rs at .letter)
+    (λ e. lower (child rs at .left) (left-child o e))
+    (λ e. lower (child rs at .right) (right-child o e))
   where
     lower : (i : ℕ) → i < at → numbered (patterns (take at rs)) i ≡ numbered (patterns rs) i
     lower i m = before-kept record-pattern no-pattern rs at i l m
-
-    go : Line at (child rs at) → record-pattern (patterns (take at rs)) (child rs at) ≡ record-pattern (patterns rs) (child rs at)
-    go (nothing k _ _ _) = rw k
-    go (empty-word k _ _ _) = rw k
-    go (letter k _ _) = rw k
-    go (choice k _ m n) = rw (lower (child rs at .left) m, lower (child rs at .right) n)
-    go (sequence k _ m n) = rw (lower (child rs at .left) m, lower (child rs at .right) n)
-    go (repeat k _ m _) = rw (k, lower (child rs at .left) m)

@@ -8,16 +8,16 @@ use mathlib.Core.Path.{_≡_, refl, _∙_, ap}
 use lib.ListN.{length}
 use Rattle.language.specs.Language.{Language}
 use Rattle.language.specs.Word.{Listed}
-use Rattle.cards.specs.declared.record.Record.{Record}
-use Rattle.cards.specs.Record.{child}
+use Rattle.records.specs.declared.record.Record.{Record}
+use Rattle.records.specs.Record.{child}
 use Rattle.cards.specs.Mark.{marked}
 use Rattle.store.specs.Laws.Wall.{grows-refl}
 use Rattle.derivative.specs.Visits.{visits}
 use Rattle.pairs.specs.declared.pair.Pair.{Pair}
 use Rattle.pairs.specs.Pair.{pair-at}
 use Rattle.pairs.specs.Laws.Table.{stands-listed}
-use Rattle.comparing.specs.Cost.{letters-cost, list-cost}
-use Rattle.comparing.specs.Laws.Frontier.{Frontier, lower-pair}
+use Rattle.searching.specs.Cost.{letters-cost, list-cost}
+use Rattle.searching.specs.Laws.Frontier.{Frontier, lower-pair}
 use Rattle.checking.specs.Check.{accepted, passes, check-letters, check-pairs, check-list}
 use Rattle.checking.specs.Point.{Reaches, GoodTable}
 use Rattle.checking.specs.Laws.Point.{Passes}

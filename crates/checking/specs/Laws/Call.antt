@@ -5,19 +5,23 @@ use native.Mathlib.Omega.{arith}
 use mathlib.Core.List.{List}
 use mathlib.Core.Path.{_≡_, refl, sym, _∙_, ap, ap₂}
 use lib.ListN.{length}
+use Rattle.answers.specs.declared.Checked.{Checked}
+use Rattle.answers.specs.declared.Checked.the-variants.{Refused as RefusedCheck}
+use Rattle.answers.specs.Checking.{told}
 use Rattle.language.specs.Word.{Bytes}
-use Rattle.cards.specs.declared.record.Record.{Record}
-use Rattle.cards.specs.declared.examine.Standing.{Standing}
-use Rattle.cards.specs.declared.examine.Standing.the-variants.{Good, Refused}
-use Rattle.cards.specs.Record.{records, run-of}
+use Rattle.records.specs.declared.record.Record.{Record}
+use Rattle.refusals.specs.declared.Standing.{Standing}
+use Rattle.refusals.specs.declared.Standing.the-variants.{Good, Refused}
+use Rattle.refusals.specs.Numbers.{no-free-place}
+use Rattle.records.specs.Record.{records, run-of}
 use Rattle.store.specs.Room.{store-in, places-of, laid, fresh-store}
-use Rattle.store.specs.Loading.{load}
+use Rattle.loading.specs.Loading.{load}
 use Rattle.store.specs.Good.{GoodStore}
 use Rattle.store.specs.Laws.Room.{laid-laid}
 use Rattle.store.specs.Laws.Wall.{grows-length, Kept}
 use Rattle.store.specs.Laws.GoodRoom.{places-after, store-after}
 use Rattle.store.specs.Laws.LegalRoom.{LegalRoom, legal-room}
-use Rattle.store.specs.Laws.FreshRoom.{grown-good}
+use Rattle.loading.specs.Laws.FreshRoom.{grown-good}
 use Rattle.pairs.specs.declared.opening.Opened.{Opened}
 use Rattle.pairs.specs.declared.opening.Opened.the-variants.{At, Full}
 use Rattle.pairs.specs.Room.{listed-pairs}
@@ -25,9 +29,7 @@ use Rattle.pairs.specs.Tried.{tried}
 use Rattle.pairs.specs.Opening.{Opening, opened, unopened, open-both, after-opening}
 use Rattle.pairs.specs.Told.{CanOpen, told-opening, Opens}
 use Rattle.pairs.specs.Laws.Opening.{OpenLaw, both-opened, was-filled, open-law}
-use Rattle.checking.specs.declared.Checked.{Checked}
-use Rattle.checking.specs.declared.Checked.the-variants.{Refused as RefusedCheck}
-use Rattle.checking.specs.Outcome.{check-standing, told, Outcome, check-loaded, check-opened, check-by, check-outcome}
+use Rattle.checking.specs.Outcome.{check-standing, Outcome, check-loaded, check-opened, check-by, check-outcome}
 use Rattle.checking.specs.Promise.{Checks}
 use Rattle.checking.specs.Told.{GoodProof, Tells}
 use Rattle.checking.specs.Laws.Refusals.{Unrefused, unrefused}
@@ -127,11 +129,11 @@ module _ {left right proof list room : List ℕ} {budget : ℕ} {found : Standin
     law = open-law left right (k .lefts) (k .rights) (length room) (not-refused .left-good) (not-refused .right-good) (not-refused .room-legal)
 
     module _ {answer : Opened} {room₁ : List ℕ} (b : Opens room opening answer room₁) where
-      pub full-in-opening : {taken : ℕ} → answer ≡ Full taken → Checks left right proof list room budget (RefusedCheck 7 taken 0) room₁
+      pub full-in-opening : {taken : ℕ} → answer ≡ Full taken → Checks left right proof list room budget (RefusedCheck no-free-place taken 0) room₁
       full-in-opening {taken} f = go opening refl (b .answers) (b .leaves)
         where
           go : (o : Opening) → opening ≡ o → answer ≡ told-opening o → room₁ ≡ laid (after-opening o) room
-              → Checks left right proof list room budget (RefusedCheck 7 taken 0) room₁
+              → Checks left right proof list room budget (RefusedCheck no-free-place taken 0) room₁
           go (opened x y store) i a w = absurd (not-both a f)
           go (unopened store) i a w =
               let stood : taken ≡ length store = cc in

@@ -8,9 +8,10 @@ use mathlib.Core.Bool.{Bool, true, false, false≢true}
 use mathlib.Core.List.{List, [], _∷_}
 use mathlib.Core.Path.{_≡_, refl, sym, _∙_, ap, subst}
 use lib.ListN.{length}
+use Rattle.answers.specs.Checking.{Point, at-opening, at-marks, at-letter}
 use Rattle.language.specs.Word.{IsByte, Listed}
-use Rattle.cards.specs.declared.record.Record.{Record}
-use Rattle.cards.specs.Record.{child}
+use Rattle.records.specs.declared.record.Record.{Record}
+use Rattle.records.specs.Record.{child}
 use Rattle.cards.specs.Mark.{marked}
 use Rattle.store.specs.Laws.Wall.{Grows, grows-length, Ready, Kept}
 use Rattle.derivative.specs.Laws.Steps.{Why}
@@ -18,8 +19,8 @@ use Rattle.pairs.specs.declared.pair.Pair.{Pair}
 use Rattle.pairs.specs.Pair.{pair-at, stands-in, StandsAt}
 use Rattle.pairs.specs.Laws.Table.{stands-at, stands-listed}
 use Rattle.pairs.specs.Laws.Tried.{Rising}
-use Rattle.comparing.specs.Laws.Search.{same-mark}
-use Rattle.checking.specs.Check.{Point, at-opening, at-marks, at-letter, Checking, accepted, rejected, cut-off, Passing, passes, ends, check-letters, check-pairs, check-list}
+use Rattle.searching.specs.Laws.Search.{same-mark}
+use Rattle.checking.specs.Check.{Checking, accepted, rejected, cut-off, Passing, passes, ends, check-letters, check-pairs, check-list}
 use Rattle.checking.specs.Along.{visits-by-letters, visits-by-pairs, visits-of-list}
 use Rattle.checking.specs.Point.{Reaches, Agree, RightPair, GoodTable, FailsAt, opening-missing, marks-differ, not-listed}
 use Rattle.checking.specs.Laws.Point.{Inside, Passes, agree-grows, passes-grows}

@@ -6,15 +6,15 @@ use mathlib.Core.List.{List, [], _∷_, _++_}
 use mathlib.Core.Path.{refl, _∙_, ap}
 use lib.Dec.{ltb}
 use lib.ListN.{length, length-append}
-use Rattle.cards.specs.declared.record.Record.{Record}
-use Rattle.cards.specs.Record.{child}
+use Rattle.records.specs.declared.record.Record.{Record}
+use Rattle.records.specs.Record.{child}
 use Rattle.cards.specs.Mark.{marked}
 use Rattle.derivative.specs.Derivative.{Deriving, derived, stopped as unfinished, derive}
 use Rattle.pairs.specs.declared.pair.Pair.{Pair}
 use Rattle.pairs.specs.Pair.{pair-at, stands-in, StandsAt}
-use Rattle.comparing.specs.ReadOff.{word-of}
-use Rattle.comparing.specs.Search.{Search, same, different, stopped, Going, on, ends, look, by-letter, by-letters, take-pairs, search}
-use Rattle.comparing.specs.Laws.Words.{pair-kept}
+use Rattle.searching.specs.ReadOff.{word-of}
+use Rattle.searching.specs.Search.{Search, same, different, stopped, Going, on, ends, look, by-letter, by-letters, take-pairs, search}
+use Rattle.searching.specs.Laws.Words.{pair-kept}
 
 -- The places x and y stand as a pair in the table, where a search ends with "same".
 pub data EndsWith (x y : ℕ) : Search → Type 0 where

@@ -9,9 +9,10 @@ use mathlib.Core.List.{List, _∷_, List·Memᴰ·head, List·Memᴰ·tail, List
 use mathlib.Core.Logic.{⊎-elim}
 use mathlib.Core.Path.{_≡_, refl, sym, _∙_, ap, subst}
 use lib.ListN.{length}
+use Rattle.answers.specs.Checking.{at-letter}
 use Rattle.language.specs.Word.{IsByte, Listed}
 use Rattle.language.specs.Laws.Quotient.{Quotient}
-use Rattle.cards.specs.declared.record.Record.{Record}
+use Rattle.records.specs.declared.record.Record.{Record}
 use Rattle.store.specs.Laws.Wall.{Grows, grows-refl, grows-trans, grows-length, Ready, Kept, kept-refl, kept-trans, replay, anew}
 use Rattle.store.specs.Laws.Languages.{language-at}
 use Rattle.derivative.specs.Derivative.{Deriving, derived, stopped, derive}
@@ -23,7 +24,7 @@ use Rattle.pairs.specs.declared.pair.Pair.{Pair}
 use Rattle.pairs.specs.Pair.{stands-in}
 use Rattle.pairs.specs.Laws.Table.{stands-at, stands-listed}
 use Rattle.pairs.specs.Laws.Tried.{Rising, none-rise, rises}
-use Rattle.checking.specs.Check.{at-letter, rejected, cut-off, Passing, passes, ends, check-letters}
+use Rattle.checking.specs.Check.{rejected, cut-off, Passing, passes, ends, check-letters}
 use Rattle.checking.specs.Along.{visits-by-letters}
 use Rattle.checking.specs.Point.{LeadsTo, Reaches, Misses}
 use Rattle.checking.specs.Laws.Point.{reaches-grows}

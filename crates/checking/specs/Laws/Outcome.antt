@@ -6,19 +6,21 @@ use mathlib.Core.Bool.{false}
 use mathlib.Core.List.{List, []}
 use mathlib.Core.Path.{_≡_, refl, sym, _∙_, ap, subst}
 use lib.ListN.{length}
+use Rattle.answers.specs.Checking.{Point, Verdict, is-accepted, is-rejected, refused-by, Told}
 use Rattle.language.specs.Word.{Bytes}
 use Rattle.language.specs.Language.{language, Equal}
 use Rattle.language.specs.Laws.Equality.{equal-trans}
-use Rattle.cards.specs.declared.record.Record.{Record}
-use Rattle.cards.specs.declared.examine.Standing.{Standing}
-use Rattle.cards.specs.declared.examine.Standing.the-variants.{Good, Refused}
-use Rattle.cards.specs.Record.{records}
+use Rattle.records.specs.declared.record.Record.{Record}
+use Rattle.refusals.specs.declared.Standing.{Standing}
+use Rattle.refusals.specs.declared.Standing.the-variants.{Good, Refused}
+use Rattle.refusals.specs.Numbers.{no-free-place, no-budget-left}
+use Rattle.records.specs.Record.{records}
 use Rattle.cards.specs.Meaning.{card-pattern}
-use Rattle.cards.specs.Laws.Record.{length-records}
+use Rattle.records.specs.Laws.Record.{length-records}
 use Rattle.store.specs.Room.{fresh-store, wrong-room}
-use Rattle.store.specs.Loading.{Loading, loaded, load}
+use Rattle.loading.specs.Loading.{Loading, loaded, load}
 use Rattle.store.specs.Laws.Wall.{Grows, grows-trans, grows-length, grows-language, Kept, kept-trans, Filled}
-use Rattle.store.specs.Laws.Loading.{AllLoaded, LoadLaw, all-loaded, was-full, load-law}
+use Rattle.loading.specs.Laws.Loading.{AllLoaded, LoadLaw, all-loaded, was-full, load-law}
 use Rattle.derivative.specs.Laws.Steps.{Why, no-place, no-budget}
 use Rattle.pairs.specs.declared.pair.Pair.{Pair}
 use Rattle.pairs.specs.Pair.{pair-at}
@@ -27,8 +29,8 @@ use Rattle.pairs.specs.Tried.{tried}
 use Rattle.pairs.specs.Opening.{Opening, opened}
 use Rattle.pairs.specs.Laws.Tried.{tried-rise, tried-bytes, tried-represent}
 use Rattle.pairs.specs.Laws.Opening.{BothOpened, OpenLaw, both-opened, was-filled, open-law}
-use Rattle.checking.specs.Check.{Point, Checking, cut-off, check-list}
-use Rattle.checking.specs.Outcome.{check-standing, mapped, Verdict, is-accepted, is-rejected, refused-by, Told, Outcome, told-at, of-checking, check-loaded, check-opened, check-by, check-outcome}
+use Rattle.checking.specs.Check.{Checking, cut-off, check-list}
+use Rattle.checking.specs.Outcome.{check-standing, mapped, Outcome, told-at, of-checking, check-loaded, check-opened, check-by, check-outcome}
 use Rattle.checking.specs.Along.{visits-loaded, visits-opened, visits-standing, check-visits}
 use Rattle.checking.specs.Point.{GoodTable}
 use Rattle.checking.specs.Promise.{Loaded, TrueVerdict, accepted-true, rejected-true, refused-true}
@@ -47,7 +49,7 @@ pub data Call (left right proof list : List ℕ) (work budget : ℕ) : Outcome �
   refused-at-once : {number : ℕ} → check-standing left right proof list work ≡ Refused number
       → Call left right proof list work budget (told-at (refused-by number) [] 0) 0
   full-in-loading : Unrefused left right proof list work → {store : List Record} → Filled (work / 8) fresh-store store
-      → Call left right proof list work budget (told-at (refused-by 7) store 0) 0
+      → Call left right proof list work budget (told-at (refused-by no-free-place) store 0) 0
   went-through : Unrefused left right proof list work → {x y : ℕ} {store₀ : List Record} {places : List ℕ} {store : List Record}
       → AllOpened left right proof (work / 8) x y store₀ places store → Inside store (mapped places (listed-pairs list))
       → {visits : ℕ} {c : Checking}
@@ -150,8 +152,8 @@ pub record Counts (work budget : ℕ) (o : Outcome) : Type 0 where
   pub standing : o .tells .places ≡ length (o .store)
   pub within : o .tells .places ≤ work / 8
   pub affordable : o .tells .visits ≤ budget
-  pub at-7 : o .tells .says ≡ refused-by 7 → o .tells .places ≡ work / 8
-  pub at-8 : o .tells .says ≡ refused-by 8 → o .tells .visits ≡ budget
+  pub at-7 : o .tells .says ≡ refused-by no-free-place → o .tells .places ≡ work / 8
+  pub at-8 : o .tells .says ≡ refused-by no-budget-left → o .tells .visits ≡ budget
 
 same-number : {a b : ℕ} → refused-by a ≡ refused-by b → a ≡ b
 same-number e = cc

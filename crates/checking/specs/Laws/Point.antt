@@ -5,13 +5,14 @@ use native.Mathlib.Omega.{arith}
 use mathlib.Core.List.{List}
 use mathlib.Core.Path.{_≡_, sym, _∙_, subst}
 use lib.ListN.{length}
+use Rattle.answers.specs.Checking.{Point}
 use Rattle.language.specs.Word.{IsByte, Word, Bytes, Listed}
 use Rattle.language.specs.Language.{Language, EqualOver, Equal}
 use Rattle.language.specs.Laws.Equality.{equal-sym, equal-trans, equal-narrow}
 use Rattle.language.specs.Laws.Quotient.{Quotient}
 use Rattle.language.specs.Laws.Tables.{Closed, closed-equal}
 use Rattle.language.specs.Laws.StandIn.{Represented, equal-of-tried}
-use Rattle.cards.specs.declared.record.Record.{Record}
+use Rattle.records.specs.declared.record.Record.{Record}
 use Rattle.store.specs.Laws.Wall.{Grows, Ready, replay}
 use Rattle.store.specs.Laws.Languages.{language-at}
 use Rattle.derivative.specs.Derivative.{Deriving, derived, derive}
@@ -21,8 +22,7 @@ use Rattle.derivative.specs.Laws.Steps.{Done, StepLaw, was-done, was-ended}
 use Rattle.derivative.specs.Laws.Derivative.{Means, derive-law}
 use Rattle.pairs.specs.declared.pair.Pair.{Pair}
 use Rattle.pairs.specs.Pair.{pair-at}
-use Rattle.comparing.specs.Laws.Search.{marks-kept, mark-tells}
-use Rattle.checking.specs.Check.{Point}
+use Rattle.searching.specs.Laws.Search.{marks-kept, mark-tells}
 use Rattle.checking.specs.Point.{LeadsTo, Reaches, Agree, GoodTable, FailsAt, opening-missing, marks-differ, not-listed}
 
 -- Every listed pair is of places of the store.

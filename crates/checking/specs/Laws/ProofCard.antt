@@ -1,60 +1,50 @@
 -- Loading the proof card in a room: a proof card in good standing can be loaded with a map of an entry for each record that it may have; the
 -- list is then mapped to places of the store, as the definition maps it, and what the code answers of the list is told of the whole.
-use Prim.Native.Nat.{ℕ, suc, _-_, _/_, _<_, _≤_}
+use Prim.Native.Nat.{ℕ, suc, _/_, _<_, _≤_}
 use native.Mathlib.Nat.{le-refl}
 use native.Mathlib.Omega.{arith}
 use mathlib.Core.List.{List, [], _∷_}
 use mathlib.Core.Path.{_≡_, refl, sym, _∙_, ap, ap₂}
 use lib.ListN.{length, getD, take, length-take}
 use lib.Seq.{getD-take}
+use Rattle.answers.specs.declared.Checked.{Checked}
+use Rattle.answers.specs.declared.Checked.the-variants.{Refused}
+use Rattle.answers.specs.Checking.{told}
+use Rattle.answers.specs.Laws.Checking.{tells-so}
 use Rattle.language.specs.Word.{Bytes}
-use Rattle.cards.specs.declared.record.Record.{Record}
-use Rattle.cards.specs.declared.examine.Standing.{Standing}
-use Rattle.cards.specs.declared.examine.Standing.the-variants.{Good}
-use Rattle.cards.specs.Record.{records}
-use Rattle.cards.specs.Examine.{most-proof-records, proof-card}
-use Rattle.cards.specs.Standing.{RightLength, Stands, by-1, by-2, by-3, in-good-standing}
-use Rattle.cards.specs.Laws.Record.{length-records}
-use Rattle.cards.specs.Laws.Examine.{examined-right, good-right}
-use Rattle.store.specs.declared.loading.Loaded.{Loaded}
-use Rattle.store.specs.declared.loading.Loaded.the-variants.{All, Full}
+use Rattle.records.specs.declared.record.Record.{Record}
+use Rattle.refusals.specs.declared.Standing.the-variants.{Good}
+use Rattle.refusals.specs.Numbers.{no-free-place}
+use Rattle.refusals.specs.Limits.{most-proof-records}
+use Rattle.records.specs.Record.{records}
+use Rattle.cards.specs.Examine.{proof-card}
+use Rattle.records.specs.Laws.Record.{length-records}
+use Rattle.loading.specs.declared.card.Loaded.{Loaded}
+use Rattle.loading.specs.declared.card.Loaded.the-variants.{All, Full}
 use Rattle.store.specs.Room.{store-in, places-of, laid}
-use Rattle.store.specs.Loading.{Loading, loaded, after-loading}
-use Rattle.store.specs.Told.{told-loading, Mapped}
-use Rattle.store.specs.Good.{GoodStore, Loadable}
+use Rattle.loading.specs.Loading.{Loading, loaded, after-loading}
+use Rattle.loading.specs.Told.{told-loading, Mapped}
+use Rattle.store.specs.Good.{GoodStore}
+use Rattle.loading.specs.Told.{Loadable}
 use Rattle.store.specs.Laws.GoodRoom.{room-ready}
-use Rattle.store.specs.Laws.Loading.{AllLoaded, LoadLaw, all-loaded, was-full, load-law}
-use Rattle.store.specs.Laws.LoadingRoom.{loading-in}
+use Rattle.loading.specs.Laws.Cards.{examined-loadable}
+use Rattle.loading.specs.Laws.Loading.{AllLoaded, LoadLaw, all-loaded, was-full, load-law}
+use Rattle.loading.specs.Laws.LoadingRoom.{loading-in}
 use Rattle.pairs.specs.declared.pair.Pair.{Pair}
 use Rattle.pairs.specs.Pair.{pair-record, pair-at}
 use Rattle.pairs.specs.Room.{pairs-of, listed-pairs}
 use Rattle.pairs.specs.Laws.Pair.{length-first-pairs, first-pair-at}
-use Rattle.checking.specs.declared.Checked.{Checked}
-use Rattle.checking.specs.declared.Checked.the-variants.{Refused}
-use Rattle.checking.specs.declared.checking.Checking.{Checking as CodeChecking}
-use Rattle.checking.specs.Check.{at-opening, at-marks, at-letter, Checking, accepted, rejected, cut-off, check-list}
-use Rattle.checking.specs.Outcome.{mapped, told, Outcome, of-checking, check-loaded}
-use Rattle.checking.specs.Told.{MappedInside, GoodProof, told-checking, checking-store, checking-left, Leaves, Ends, left-told, told-end, Tells, mapped-list}
+use Rattle.checking.specs.Check.{Checking, accepted, rejected, cut-off, check-list}
+use Rattle.checking.specs.Outcome.{mapped, Outcome, of-checking, check-loaded}
+use Rattle.checking.specs.Told.{MappedInside, GoodProof, checking-store, checking-left, Leaves, Ends, Tells, mapped-list}
 use Rattle.checking.specs.Laws.Refusals.{good-proof, named-below}
 use Rattle.checking.specs.Laws.Rooms.{Stood, good-now, places-now, store-now, both-inside, left-from}
 
 -- A proof card in good standing can be loaded.
 
-right-length : (card : List ℕ) → proof-card card ≡ Good → RightLength most-proof-records (length card)
-unfolding proof-card
-right-length card e = go e (examined-right most-proof-records card)
-  where
-    go : {s : Standing} → s ≡ Good → Stands most-proof-records card s → RightLength most-proof-records (length card)
-    go e (by-1 n) = let z : _≡_ {A = ℕ} 0 1 = cc in absurd (omega arith)
-    go e (by-2 h _ _ _ _) = h
-    go e (by-3 h _ _ _ _ _) = h
-    go e (in-good-standing h _) = h
-
 pub loadable-proof : (card map : List ℕ) → proof-card card ≡ Good → length map ≡ most-proof-records → Loadable card map
 unfolding proof-card
-loadable-proof card map e n =
-    let l = right-length card e .not-long in
-    record { mapped = omega arith; obeys = λ at m. good-right most-proof-records card e at m .obeys }
+loadable-proof card map e n = examined-loadable most-proof-records card map e n
 
 -- A map that begins with these places.
 module _ (map places : List ℕ) (begins : take (length places) map ≡ places) where
@@ -89,31 +79,10 @@ record ProofLoaded (room : List ℕ) (places : ℕ) (proof : List ℕ) (l : Load
   taken-is : taken ≡ length store
   room-is : room₁ ≡ laid store room
 
--- The answer of an end, and what is told of it.
-
-told-so : (budget : ℕ) (c : Checking) → told (told-end budget (told-checking c)) ≡ of-checking budget c .tells
-told-so budget (accepted store left) = refl
-told-so budget (rejected at-opening store left) = refl
-told-so budget (rejected (at-marks n) store left) = refl
-told-so budget (rejected (at-letter n letter) store left) = refl
-told-so budget (cut-off number store left) = refl
-
 stands-so : (budget : ℕ) (c : Checking) → checking-store c ≡ of-checking budget c .store
 stands-so budget (accepted store left) = refl
 stands-so budget (rejected point store left) = refl
 stands-so budget (cut-off number store left) = refl
-
-left-so : (c : Checking) → left-told (told-checking c) ≡ checking-left c
-left-so (accepted store left) = refl
-left-so (rejected at-opening store left) = refl
-left-so (rejected (at-marks n) store left) = refl
-left-so (rejected (at-letter n letter) store left) = refl
-left-so (cut-off number store left) = refl
-
--- What an end tells as left is part of the budget.
-pub end-affordable : {room : List ℕ} {places budget : ℕ} {c : Checking} {end : CodeChecking} {room′ : List ℕ} → Ends room places budget c end room′
-    → left-told end ≤ budget
-end-affordable {c = c} e = rw (e .answers, left-so c) (e .leaves .spent)
 
 module _ {room : List ℕ} {places : ℕ} {proof : List ℕ} {l : Loading} {map : List ℕ} {taken : ℕ} {room₁ : List ℕ} (p : ProofLoaded room places proof l map taken room₁)
     {list : List ℕ} (can : GoodProof proof list) where
@@ -171,17 +140,16 @@ module _ {room : List ℕ} {places : ℕ} {proof : List ℕ} {l : Loading} {map 
     ready-so inside = (good-now stood, (list-mapped, both-inside stood inside))
 
     -- What the code answers of the list is told of the whole.
-    told-of-list : {end : CodeChecking} {room₂ : List ℕ}
-        → Ends room₁ taken budget (check-list (places-of room₁) letters (mapped-list map list) x y (store-in room₁ taken) budget) end room₂
-        → {answer : Checked} → answer ≡ told-end budget end
+    told-of-list : {answer : Checked} {room₂ : List ℕ}
+        → Ends room₁ taken budget budget (check-list (places-of room₁) letters (mapped-list map list) x y (store-in room₁ taken) budget) answer room₂
         → Tells room places (check-loaded (places-of room) letters (listed-pairs list) budget x y l) answer room₂
-    told-of-list {room₂ = room₂} n is =
+    told-of-list {room₂ = room₂} n =
         let k = rw (places-now stood, store-now stood, same-list) at n in
         let c = check-list (places-of room) letters (mapped (p .at-places) (listed-pairs list)) x y (p .store) budget in
         let o : Leaves room places budget (checking-store c) (checking-left c) room₂ = left-from stood (k .leaves) in
         rw (p .is)
         (record {
-          tells = ap told (is ∙ ap (told-end budget) (k .answers)) ∙ told-so budget c;
+          tells = ap told (k .answers) ∙ tells-so (of-checking budget c .tells);
           leaves = o .room-is ∙ ap (λ (s : List Record). laid s room) (stands-so budget c);
           kept = rw (stands-so budget c) at (o .kept);
         })
@@ -197,11 +165,11 @@ module _ {room : List ℕ} {places : ℕ} (good : GoodStore room places) (proof 
   law = load-law (places-of room) (records proof) (good-proof proof proofs (can .good)) (store-in room places) (room-ready good)
 
   -- The room is full.
-  pub proof-full : {taken : ℕ} → answer ≡ Full taken → Tells room places (outcome (loading-in room places proof)) (Refused 7 taken 0) room₁
+  pub proof-full : {taken : ℕ} → answer ≡ Full taken → Tells room places (outcome (loading-in room places proof)) (Refused no-free-place taken 0) room₁
   proof-full {taken} e = go law a (b .0)
     where
       go : {l : Loading} → LoadLaw (places-of room) (records proof) (store-in room places) [] (records proof) l → answer ≡ told-loading l
-          → room₁ ≡ laid (after-loading l) room → Tells room places (outcome l) (Refused 7 taken 0) room₁
+          → room₁ ≡ laid (after-loading l) room → Tells room places (outcome l) (Refused no-free-place taken 0) room₁
       go (all-loaded h) t w = absurd (not-both t e)
       go (was-full {store′ = s} f) t w =
           let stood : taken ≡ length s = cc in
@@ -222,7 +190,7 @@ module _ {room : List ℕ} {places : ℕ} (good : GoodStore room places) (proof 
     pub list-ready : (x < places) × (y < places) → GoodStore room₁ taken × (MappedInside list map taken × ((x < taken) × (y < taken)))
     list-ready inside = ready-so proof-loaded can good letters x y budget inside
 
-    pub list-told : {end : CodeChecking} {room₂ : List ℕ}
-        → Ends room₁ taken budget (check-list (places-of room₁) letters (mapped-list map list) x y (store-in room₁ taken) budget) end room₂
-        → {answer : Checked} → answer ≡ told-end budget end → Tells room places (outcome (loading-in room places proof)) answer room₂
-    list-told n is = told-of-list proof-loaded can good letters x y budget n is
+    pub list-told : {answer : Checked} {room₂ : List ℕ}
+        → Ends room₁ taken budget budget (check-list (places-of room₁) letters (mapped-list map list) x y (store-in room₁ taken) budget) answer room₂
+        → Tells room places (outcome (loading-in room places proof)) answer room₂
+    list-told n = told-of-list proof-loaded can good letters x y budget n

@@ -1,30 +1,31 @@
--- Where no refusal is due, the three cards are good, room and list are legal and every listed pair names two records of the proof card; and
--- only then. A call that is refused at once is refused by a number from 1 to 6 or by 11.
+-- A call of checking that is not refused at once, and the numbers by which one is: the laws of any order of refusals, of checking's. And number 11:
+-- every listed pair names two records of the proof card.
 use Prim.Native.Nat.{ℕ, zero, suc, _*_, _/_, _<_, _≤_}
 use native.Mathlib.Omega.{arith}
 use mathlib.Core.Bool.{Bool, true, false, not, _&&_}
 use mathlib.Core.List.{List, [], _∷_}
-use mathlib.Core.Logic.{⊎-elim}
 use mathlib.Core.Path.{_≡_, refl, sym}
 use lib.Dec.{ltb}
 use borrow.Author.Tests.{ltb-true, lt-ltb}
 use lib.ListN.{length, getD}
 use Rattle.language.specs.Word.{Bytes}
 use Rattle.language.specs.Laws.Tests.{and-left, and-right, and-both}
-use Rattle.cards.specs.declared.examine.Standing.the-variants.{Good, Refused}
-use Rattle.cards.specs.Record.{records}
-use Rattle.cards.specs.Examine.{_then_, refused-if, most-pattern-records, most-proof-records, pattern-card, proof-card}
-use Rattle.cards.specs.Laws.Order.{both-good, not-refused, then-number, if-number}
-use Rattle.cards.specs.Laws.Record.{record-at-place, length-records, fitting-of, bytes-drop}
-use Rattle.cards.specs.Laws.Examine.{good-right, card-number}
+use Rattle.refusals.specs.declared.Standing.the-variants.{Good, Refused}
+use Rattle.refusals.specs.Numbers.{work-room-size, pair-room-size, pair-names-no-record}
+use Rattle.refusals.specs.Limits.{most-pattern-records, most-proof-records}
+use Rattle.refusals.specs.Laws.Order.{each-good, order-tells, not-refused, if-tells}
+use Rattle.records.specs.Record.{records}
+use Rattle.cards.specs.Examine.{pattern-card, proof-card}
+use Rattle.cards.specs.Laws.Examine.{card-number}
 use Rattle.store.specs.Room.{wrong-room}
-use Rattle.store.specs.Laws.Loading.{GoodCard}
+use Rattle.loading.specs.Laws.Cards.{examined-card}
+use Rattle.loading.specs.Laws.Loading.{GoodCard}
 use Rattle.pairs.specs.declared.pair.Pair.{Pair}
 use Rattle.pairs.specs.Pair.{pair-at}
 use Rattle.pairs.specs.Room.{wrong-pair-room, listed-pairs}
-use Rattle.checking.specs.Outcome.{all-named, check-standing, mapped}
+use Rattle.checking.specs.Outcome.{all-named, check-order, check-standing, mapped}
 
--- A call that is not refused at once.
+-- A call that is not refused at once: the three cards are good, room and list are legal and every listed pair names two records of the proof card.
 pub record Unrefused (left right proof list : List ℕ) (work : ℕ) : Type 0 where
   pub left-good : pattern-card left ≡ Good
   pub right-good : pattern-card right ≡ Good
@@ -37,66 +38,58 @@ not-false : (b : Bool) → not b ≡ false → b ≡ true
 not-false true e = refl
 not-false false e = sym e
 
-pub unrefused : (left right proof list : List ℕ) (work : ℕ) → check-standing left right proof list work ≡ Good → Unrefused left right proof list work
-unfolding check-standing
-unrefused left right proof list work e =
-    let eleven = refused-if (not (all-named (length proof / 8) (listed-pairs list))) 11 in
-    let six = refused-if (wrong-pair-room (length list)) 6 in
-    let five = refused-if (wrong-room work) 5 in
-    let a = both-good (pattern-card left) (pattern-card right then proof-card proof then five then six then eleven) e in
-    let b = both-good (pattern-card right) (proof-card proof then five then six then eleven) (a .1) in
-    let c = both-good (proof-card proof) (five then six then eleven) (b .1) in
-    let d = both-good five (six then eleven) (c .1) in
-    let f = both-good six eleven (d .1) in
-    record {
-      left-good = a .0;
-      right-good = b .0;
-      proof-good = c .0;
-      room-legal = not-refused (wrong-room work) 5 (d .0);
-      list-legal = not-refused (wrong-pair-room (length list)) 6 (f .0);
-      named = not-false (all-named (length proof / 8) (listed-pairs list)) (not-refused (not (all-named (length proof / 8) (listed-pairs list))) 11 (f .1));
-    }
-
-pub no-refusal : (left right proof list : List ℕ) (work : ℕ) → Unrefused left right proof list work → check-standing left right proof list work ≡ Good
-unfolding check-standing
-no-refusal left right proof list work u = rw (u .left-good, u .right-good, u .proof-good, u .room-legal, u .list-legal, u .named)
-
 -- The numbers of a refusal at once.
 pub data AtOnce (number : ℕ) : Type 0 where
   to-6 : number ≤ 6 → AtOnce number
-  by-11 : number ≡ 11 → AtOnce number
+  by-11 : number ≡ pair-names-no-record → AtOnce number
 
-pub at-once-number : (left right proof list : List ℕ) (work number : ℕ) → check-standing left right proof list work ≡ Refused number → AtOnce number
-unfolding check-standing pattern-card proof-card
-at-once-number left right proof list work number e =
-    let eleven = refused-if (not (all-named (length proof / 8) (listed-pairs list))) 11 in
-    let six = refused-if (wrong-pair-room (length list)) 6 in
-    let five = refused-if (wrong-room work) 5 in
-    ⊎-elim (λ f. let n = card-number most-pattern-records left number f in to-6 (omega arith))
-    (λ e₁.
-    ⊎-elim (λ f. let n = card-number most-pattern-records right number f in to-6 (omega arith))
-    (λ e₂.
-    ⊎-elim (λ f. let n = card-number most-proof-records proof number f in to-6 (omega arith))
-    (λ e₃.
-    ⊎-elim (λ f. let n = if-number (wrong-room work) 5 number f in to-6 (omega arith))
-    (λ e₄.
-    ⊎-elim (λ f. let n = if-number (wrong-pair-room (length list)) 6 number f in to-6 (omega arith))
-    (λ f. by-11 (sym (if-number (not (all-named (length proof / 8) (listed-pairs list))) 11 number f)))
-    (then-number six eleven number e₄))
-    (then-number five (six then eleven) number e₃))
-    (then-number (proof-card proof) (five then six then eleven) number e₂))
-    (then-number (pattern-card right) (proof-card proof then five then six then eleven) number e₁))
-    (then-number (pattern-card left) (pattern-card right then proof-card proof then five then six then eleven) number e)
+of-card : {number : ℕ} → number ≤ 3 → AtOnce number
+of-card l = to-6 (omega arith)
+
+module _ (left right proof list : List ℕ) (work : ℕ) where
+  pub unrefused : check-standing left right proof list work ≡ Good → Unrefused left right proof list work
+  unfolding check-standing
+  unrefused e =
+      let good = each-good (check-order left right proof list work) e in
+      let named = all-named (length proof / 8) (listed-pairs list) in
+      record {
+        left-good = good .0;
+        right-good = good .1 .0;
+        proof-good = good .1 .1 .0;
+        room-legal = not-refused (wrong-room work) work-room-size (good .1 .1 .1 .0);
+        list-legal = not-refused (wrong-pair-room (length list)) pair-room-size (good .1 .1 .1 .1 .0);
+        named = not-false named (not-refused (not named) pair-names-no-record (good .1 .1 .1 .1 .1 .0));
+      }
+
+  pub no-refusal : Unrefused left right proof list work → check-standing left right proof list work ≡ Good
+  unfolding check-standing
+  no-refusal u = rw (u .left-good, u .right-good, u .proof-good, u .room-legal, u .list-legal, u .named)
+
+  -- A call that is refused at once is refused by a number from 1 to 6 or by 11.
+  pub at-once-number : (number : ℕ) → check-standing left right proof list work ≡ Refused number → AtOnce number
+  unfolding check-standing pattern-card proof-card
+  at-once-number =
+      order-tells AtOnce (check-order left right proof list work) (
+        λ number e. of-card (card-number most-pattern-records left number e),
+        (
+          λ number e. of-card (card-number most-pattern-records right number e),
+          (
+            λ number e. of-card (card-number most-proof-records proof number e),
+            (
+              if-tells AtOnce (wrong-room work) work-room-size (to-6 (omega arith)),
+              (
+                if-tells AtOnce (wrong-pair-room (length list)) pair-room-size (to-6 (omega arith)),
+                (if-tells AtOnce (not (all-named (length proof / 8) (listed-pairs list))) pair-names-no-record (by-11 refl), tt),
+              ),
+            ),
+          ),
+        ),
+      )
 
 -- A proof card in good standing can be loaded.
 pub good-proof : (card : List ℕ) → Bytes card → proof-card card ≡ Good → GoodCard (records card)
 unfolding proof-card
-good-proof card b e =
-    record {
-      obeys = λ at l. good-right most-proof-records card e at (omega (arith, length-records card)) .obeys;
-      byte = λ at l.
-          rw (record-at-place card at (omega (arith, length-records card))) (fitting-of (bytes-drop (8 * at) b) .letter);
-    }
+good-proof card b e = examined-card most-proof-records card b e
 
 -- Number 11: each listed pair names two of so many records.
 pub named-below : (count : ℕ) (list : List Pair) → all-named count list ≡ true → (n : ℕ) → n < length list

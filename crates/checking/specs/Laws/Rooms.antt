@@ -1,6 +1,6 @@
 -- Checking in a room: what the code answers of a letter, of the letters, of a pair and of the list, with the room that it leaves, is what the next
 -- step goes on from, since the store that stands in the room is good again.
-use Prim.Native.Nat.{ℕ, suc, _+_, _<_, _≤_}
+use Prim.Native.Nat.{ℕ, suc, _+_, _-_, _<_, _≤_}
 use native.Mathlib.Nat.{le-refl}
 use native.Mathlib.Numerals.{add-one}
 use native.Mathlib.Omega.{arith}
@@ -9,9 +9,12 @@ use mathlib.Core.List.{List, [], _∷_}
 use mathlib.Core.Path.{_≡_, refl, sym, _∙_, ap, ap₂}
 use lib.ListN.{length, getD, drop, drop-of-length-le}
 use lib.Seq.{drop-cons}
+use Rattle.answers.specs.declared.Checked.{Checked}
+use Rattle.answers.specs.declared.Checked.the-variants.{Accepted, OpeningMissing, MarksDiffer, NotListed, Refused}
+use Rattle.answers.specs.Checking.{at-marks}
 use Rattle.language.specs.Word.{IsByte}
-use Rattle.cards.specs.declared.record.Record.{Record}
-use Rattle.cards.specs.Record.{child}
+use Rattle.records.specs.declared.record.Record.{Record}
+use Rattle.records.specs.Record.{child}
 use Rattle.cards.specs.Mark.{marked}
 use Rattle.store.specs.Room.{store-in, places-of, laid}
 use Rattle.store.specs.Good.{GoodStore}
@@ -26,11 +29,9 @@ use Rattle.derivative.specs.Told.{BothCome}
 use Rattle.derivative.specs.Laws.Both.{StandsBoth, both-stand, one-stands}
 use Rattle.pairs.specs.declared.pair.Pair.{Pair}
 use Rattle.pairs.specs.Pair.{no-pair, pair-at, stands-in}
-use Rattle.checking.specs.declared.checking.Checking.{Checking as CodeChecking}
-use Rattle.checking.specs.declared.checking.Checking.the-variants.{Accepted, OpeningMissing, MarksDiffer, NotListed, CutOff}
 use Rattle.checking.specs.declared.checking.Passing.{Passing as CodePassing}
 use Rattle.checking.specs.declared.checking.Passing.the-variants.{Passes, Ends as CodeEnds}
-use Rattle.checking.specs.Check.{at-marks, Checking, accepted, rejected, cut-off, Passing, passes, ends, check-letters, check-pairs, check-list}
+use Rattle.checking.specs.Check.{Checking, accepted, rejected, cut-off, Passing, passes, ends, check-letters, check-pairs, check-list}
 use Rattle.checking.specs.Told.{MappedInside, check-pair, told-checking, Leaves, Goes, Ends}
 use Rattle.checking.specs.Laws.Turns.{marks-equal, by-listed, right-then, left-then, letters-then, marks-then, opening-listed, opening-unlisted}
 
@@ -83,7 +84,7 @@ module _ {room₀ : List ℕ} {places budget : ℕ} {room : List ℕ} {taken lef
       }
 
 -- What the code told is one thing.
-not-both : {answer : CodePassing} {taken left : ℕ} {end : CodeChecking} → answer ≡ Passes taken left → answer ≡ CodeEnds end → ⊥
+not-both : {answer : CodePassing} {taken left : ℕ} {end : Checked} → answer ≡ Passes taken left → answer ≡ CodeEnds end → ⊥
 not-both e f = let z : _≡_ {A = ℕ} 0 1 = cc in omega arith
 
 -- A part passed: the store that then stands.
@@ -93,7 +94,7 @@ record Passed (room : List ℕ) (places budget : ℕ) (p : Passing) (taken left 
   taken-is : taken ≡ length store
   leaves : Leaves room places budget store left room′
 
-passed : {room : List ℕ} {places budget : ℕ} (p : Passing) {answer : CodePassing} {room′ : List ℕ} → Goes room places budget p answer room′
+passed : {room : List ℕ} {places budget given : ℕ} (p : Passing) {answer : CodePassing} {room′ : List ℕ} → Goes room places budget given p answer room′
     → {taken left : ℕ} → answer ≡ Passes taken left → Passed room places budget p taken left room′
 passed (passes s b) g {taken} {left} e =
     let a = g .answers in
@@ -102,17 +103,17 @@ passed (passes s b) g {taken} {left} e =
 passed (ends c) g e = absurd (not-both e (g .answers))
 
 -- A part ended.
-record Ended (room : List ℕ) (places budget : ℕ) (p : Passing) (end : CodeChecking) (room′ : List ℕ) : Type 0 where
+record Ended (room : List ℕ) (places budget given : ℕ) (p : Passing) (end : Checked) (room′ : List ℕ) : Type 0 where
   checking : Checking
   is : p ≡ ends checking
-  ends-so : Ends room places budget checking end room′
+  ends-so : Ends room places budget given checking end room′
 
-ended : {room : List ℕ} {places budget : ℕ} (p : Passing) {answer : CodePassing} {room′ : List ℕ} → Goes room places budget p answer room′
-    → {end : CodeChecking} → answer ≡ CodeEnds end → Ended room places budget p end room′
+ended : {room : List ℕ} {places budget given : ℕ} (p : Passing) {answer : CodePassing} {room′ : List ℕ} → Goes room places budget given p answer room′
+    → {end : Checked} → answer ≡ CodeEnds end → Ended room places budget given p end room′
 ended (passes s b) g e = absurd (not-both (g .answers) e)
-ended (ends c) g {end} e =
+ended {given = given} (ends c) g {end} e =
     let a = g .answers in
-    let m : end ≡ told-checking c = cc in
+    let m : end ≡ told-checking given c = cc in
     record { checking = c; is = refl; ends-so = record { answers = m; leaves = g .leaves } }
 
 -- A loop of so many turns, which comes to this from a turn on in a room of so many places.
@@ -137,13 +138,13 @@ module _ {R : Type 0} (run : ℕ → ℕ → List Record → ℕ → R) (count :
 
     module _ (turn : (cap at : ℕ) (s : List Record) (b : ℕ) → at < count → run cap at s b ≡ then-run cap at (step cap at s b))
         {room₀ : List ℕ} {places budget : ℕ} {room : List ℕ} {taken left at : ℕ} (u : Underway room₀ places budget room taken left at) (l : at < count)
-        {answer : CodePassing} {room₁ : List ℕ} (g : Goes room taken left (step (places-of room) at (store-in room taken) left) answer room₁) where
+        {given : ℕ} {answer : CodePassing} {room₁ : List ℕ} (g : Goes room taken left given (step (places-of room) at (store-in room taken) left) answer room₁) where
       abbrev cap : ℕ
       cap = places-of room₀
 
       -- The turn is the definition's, and what follows it too.
 
-      here : Goes room taken left (step cap at (u .stood .store) left) answer room₁
+      here : Goes room taken left given (step cap at (u .stood .store) left) answer room₁
       here = rw (places-now (u .stood), store-now (u .stood)) at g
 
       onward : run cap 0 (store-in room₀ places) budget ≡ then-run cap at (step cap at (u .stood .store) left)
@@ -159,12 +160,12 @@ module _ {R : Type 0} (run : ℕ → ℕ → List Record → ℕ → R) (count :
           }
 
       -- The loop ends with the turn.
-      record EndedTurn (end : CodeChecking) : Type 0 where
+      record EndedTurn (end : Checked) : Type 0 where
         checking : Checking
         is : run cap 0 (store-in room₀ places) budget ≡ of-end checking
-        ends-so : Ends room₀ places budget checking end room₁
+        ends-so : Ends room₀ places budget given checking end room₁
 
-      turn-ended : {end : CodeChecking} → answer ≡ CodeEnds end → EndedTurn end
+      turn-ended : {end : Checked} → answer ≡ CodeEnds end → EndedTurn end
       turn-ended e =
           let p = ended (step cap at (u .stood .store) left) here e in
           record {
@@ -228,7 +229,7 @@ reached-fit good letter byte x y l m budget c e =
 
 -- The code of one letter.
 module _ {room : List ℕ} {places : ℕ} (good : GoodStore room places) (pairs : List Pair) (n x y letter : ℕ) (byte : IsByte letter) (inside : (x < places) × (y < places))
-    (budget : ℕ) {answer : Both} {room′ : List ℕ} (c : BothCome room (derive-both (places-of room) letter x y (store-in room places) budget) answer room′) where
+    (budget given : ℕ) {answer : Both} {room′ : List ℕ} (c : BothCome room (derive-both (places-of room) letter x y (store-in room places) budget) answer room′) where
   abbrev one-letter : Passing
   one-letter = check-letters (places-of room) pairs n x y (letter ∷ []) (store-in room places) budget
 
@@ -251,23 +252,32 @@ module _ {room : List ℕ} {places : ℕ} (good : GoodStore room places) (pairs 
     is-listed f g =
         is-looked (stand .is) ∙ ap (λ (t : Bool). by-listed (places-of room) pairs n x y letter [] t (stand .store) left) (sym f ∙ g)
 
-    pub letter-passes : {t : Bool} → t ≡ stands-in pairs x₁ y₂ → t ≡ true → Goes room places budget one-letter (Passes taken left) room′
+    pub letter-passes : {t : Bool} → t ≡ stands-in pairs x₁ y₂ → t ≡ true → Goes room places budget given one-letter (Passes taken left) room′
     unfolding check-letters
     letter-passes f g = rw (is-listed f g) (record { answers = ap (λ (k : ℕ). Passes k left) (stand .taken-is); leaves = leaves-both })
 
-    pub letter-misses : {t : Bool} → t ≡ stands-in pairs x₁ y₂ → t ≡ false → Goes room places budget one-letter (CodeEnds (NotListed n letter taken left)) room′
+    pub letter-misses : {t : Bool} → t ≡ stands-in pairs x₁ y₂ → t ≡ false
+        → Goes room places budget given one-letter (CodeEnds (NotListed n letter taken (given - left))) room′
     letter-misses f g =
-        rw (is-listed f g) (record { answers = ap (λ (k : ℕ). CodeEnds (NotListed n letter k left)) (stand .taken-is); leaves = leaves-both })
+        rw (is-listed f g) (record { answers = ap (λ (k : ℕ). CodeEnds (NotListed n letter k (given - left))) (stand .taken-is); leaves = leaves-both })
+
+    -- What is left is part of the budget, and so of the call's.
+    pub both-spent : budget ≤ given → left ≤ given
+    both-spent m = let l = stand .spent in omega arith
 
   -- One was stopped.
-  pub letter-stops : {number taken left : ℕ} → answer ≡ OneStopped number taken left → Goes room places budget one-letter (CodeEnds (CutOff number taken left)) room′
-  letter-stops {number} {taken} {left} e =
-      let s = one-stands good letter byte x y inside budget c e in
-      rw (is-looked (s .is))
-      (record {
-        answers = ap (λ (k : ℕ). CodeEnds (CutOff number k left)) (s .taken-is);
-        leaves = record { room-is = s .room-is; kept = s .kept; spent = s .spent };
-      })
+  module _ {number taken left : ℕ} (e : answer ≡ OneStopped number taken left) where
+    pub letter-stops : Goes room places budget given one-letter (CodeEnds (Refused number taken (given - left))) room′
+    letter-stops =
+        let s = one-stands good letter byte x y inside budget c e in
+        rw (is-looked (s .is))
+        (record {
+          answers = ap (λ (k : ℕ). CodeEnds (Refused number k (given - left))) (s .taken-is);
+          leaves = record { room-is = s .room-is; kept = s .kept; spent = s .spent };
+        })
+
+    pub one-spent : budget ≤ given → left ≤ given
+    one-spent m = let l = one-stands good letter byte x y inside budget c e .spent in omega arith
 
 -- The letters of a pair, by turns of one.
 module _ (pairs : List Pair) (n x y : ℕ) (letters : List ℕ) where
@@ -292,7 +302,7 @@ module _ (pairs : List Pair) (n x y : ℕ) (letters : List ℕ) where
     abbrev all-letters : Passing
     all-letters = check-letters (places-of room₀) pairs n x y letters (store-in room₀ places) budget
 
-    pub letters-done : length letters ≤ at → Goes room₀ places budget all-letters (Passes taken left) room
+    pub letters-done : {given : ℕ} → length letters ≤ at → Goes room₀ places budget given all-letters (Passes taken left) room
     unfolding check-letters
     letters-done l =
         let e : drop at letters ≡ [] = drop-of-length-le letters {i = at} l in
@@ -300,18 +310,18 @@ module _ (pairs : List Pair) (n x y : ℕ) (letters : List ℕ) where
         u .rest ∙ ap (λ (w : List ℕ). check-letters (places-of room₀) pairs n x y w (u .stood .store) left) e in
         rw f (record { answers = ap (λ (k : ℕ). Passes k left) (u .stood .taken-is); leaves = u .stood .leaves })
 
-    module _ (l : at < length letters) {answer : CodePassing} {room₁ : List ℕ}
-        (g : Goes room taken left (check-letters (places-of room) pairs n x y (getD letters at 0 ∷ []) (store-in room taken) left) answer room₁) where
+    module _ (l : at < length letters) {given : ℕ} {answer : CodePassing} {room₁ : List ℕ}
+        (g : Goes room taken left given (check-letters (places-of room) pairs n x y (getD letters at 0 ∷ []) (store-in room taken) left) answer room₁) where
       pub letter-passed : {taken′ left′ : ℕ} → answer ≡ Passes taken′ left′ → ByLetters room₀ places budget room₁ taken′ left′ (at + 1)
       letter-passed e = turn-passed letters-run (length letters) letters-step ends letters-turn u l g e
 
-      pub letter-ended : {end : CodeChecking} → answer ≡ CodeEnds end → Goes room₀ places budget all-letters (CodeEnds end) room₁
+      pub letter-ended : {end : Checked} → answer ≡ CodeEnds end → Goes room₀ places budget given all-letters (CodeEnds end) room₁
       letter-ended e =
           let t = turn-ended letters-run (length letters) letters-step ends letters-turn u l g e in
           rw (t .is) (record { answers = ap CodeEnds (t .ends-so .answers); leaves = t .ends-so .leaves })
 
 -- The code of one pair, by the marks that it read.
-module _ {room : List ℕ} {places : ℕ} (good : GoodStore room places) (letters : List ℕ) (pairs : List Pair) (n budget : ℕ) {p : Pair} (is : p ≡ pair-at pairs n)
+module _ {room : List ℕ} {places : ℕ} (good : GoodStore room places) (letters : List ℕ) (pairs : List Pair) (n budget given : ℕ) {p : Pair} (is : p ≡ pair-at pairs n)
     {a b : Bool} (a-is : a ≡ marked (child (store-in room places) (p .left))) (b-is : b ≡ marked (child (store-in room places) (p .right))) where
   abbrev one-pair : Pair → Passing
   one-pair q = check-pair (places-of room) letters pairs n q (store-in room places) budget
@@ -327,17 +337,17 @@ module _ {room : List ℕ} {places : ℕ} (good : GoodStore room places) (letter
   is-by-marks : {t : Bool} → Bool·beq a b ≡ t → one-pair (pair-at pairs n) ≡ by-marks t
   is-by-marks e = ap one-pair (sym is) ∙ ap by-marks (ap₂ Bool·beq (sym a-is) (sym b-is) ∙ e)
 
-  pub told-differing : Bool·beq a b ≡ false → Goes room places budget (one-pair (pair-at pairs n)) (CodeEnds (MarksDiffer n places budget)) room
+  pub told-differing : Bool·beq a b ≡ false → Goes room places budget given (one-pair (pair-at pairs n)) (CodeEnds (MarksDiffer n places (given - budget))) room
   told-differing e =
       rw (is-by-marks e)
       (record {
-        answers = ap (λ (k : ℕ). CodeEnds (MarksDiffer n k budget)) (sym (length-store-in room places));
+        answers = ap (λ (k : ℕ). CodeEnds (MarksDiffer n k (given - budget))) (sym (length-store-in room places));
         leaves = unchanged room places budget good;
       })
 
   pub on-agreeing : Bool·beq a b ≡ true → {answer : CodePassing} {room₁ : List ℕ}
-      → Goes room places budget (check-letters (places-of room) pairs n (p .left) (p .right) letters (store-in room places) budget) answer room₁
-      → Goes room places budget (one-pair (pair-at pairs n)) answer room₁
+      → Goes room places budget given (check-letters (places-of room) pairs n (p .left) (p .right) letters (store-in room places) budget) answer room₁
+      → Goes room places budget given (one-pair (pair-at pairs n)) answer room₁
   on-agreeing e g = rw (is-by-marks e) g
 
 -- The pairs, by turns of one.
@@ -377,20 +387,20 @@ module _ (letters : List ℕ) (pairs : List Pair) where
     abbrev all-pairs : Checking
     all-pairs = check-pairs (places-of room₀) letters pairs 0 pairs (store-in room₀ places) budget
 
-    pub pairs-done : length pairs ≤ at → Ends room₀ places budget all-pairs (Accepted taken left) room
+    pub pairs-done : length pairs ≤ at → Ends room₀ places budget budget all-pairs (Accepted taken (budget - left)) room
     unfolding check-pairs
     pairs-done l =
         let e : drop at pairs ≡ [] = drop-of-length-le pairs {i = at} l in
         let f : all-pairs ≡ accepted (u .stood .store) left =
         u .rest ∙ ap (λ (w : List Pair). check-pairs (places-of room₀) letters pairs at w (u .stood .store) left) e in
-        rw f (record { answers = ap (λ (k : ℕ). Accepted k left) (u .stood .taken-is); leaves = u .stood .leaves })
+        rw f (record { answers = ap (λ (k : ℕ). Accepted k (budget - left)) (u .stood .taken-is); leaves = u .stood .leaves })
 
     module _ (l : at < length pairs) {answer : CodePassing} {room₁ : List ℕ}
-        (g : Goes room taken left (check-pair (places-of room) letters pairs at (pair-at pairs at) (store-in room taken) left) answer room₁) where
+        (g : Goes room taken left budget (check-pair (places-of room) letters pairs at (pair-at pairs at) (store-in room taken) left) answer room₁) where
       pub pair-passed : {taken′ left′ : ℕ} → answer ≡ Passes taken′ left′ → ByPairs room₀ places budget room₁ taken′ left′ (at + 1)
       pair-passed e = turn-passed pairs-run (length pairs) pairs-step (λ c. c) pairs-turn u l g e
 
-      pub pair-ended : {end : CodeChecking} → answer ≡ CodeEnds end → Ends room₀ places budget all-pairs end room₁
+      pub pair-ended : {end : Checked} → answer ≡ CodeEnds end → Ends room₀ places budget budget all-pairs end room₁
       pair-ended e =
           let t = turn-ended pairs-run (length pairs) pairs-step (λ c. c) pairs-turn u l g e in
           rw (t .is) (t .ends-so)
@@ -400,12 +410,13 @@ module _ {room : List ℕ} {places : ℕ} (good : GoodStore room places) (letter
   abbrev whole-list : Checking
   whole-list = check-list (places-of room) letters pairs x y (store-in room places) budget
 
-  pub told-missing : t ≡ false → Ends room places budget whole-list (OpeningMissing places budget) room
+  pub told-missing : t ≡ false → Ends room places budget budget whole-list (OpeningMissing places 0) room
   told-missing e =
+      let none : 0 ≡ budget - budget = omega arith in
       rw (opening-unlisted (places-of room) letters pairs x y (store-in room places) budget (sym is ∙ e))
-      (record { answers = ap (λ (k : ℕ). OpeningMissing k budget) (sym (length-store-in room places)); leaves = unchanged room places budget good })
+      (record { answers = ap₂ OpeningMissing (sym (length-store-in room places)) none; leaves = unchanged room places budget good })
 
-  pub on-listed : t ≡ true → {answer : CodeChecking} {room₁ : List ℕ}
-      → Ends room places budget (check-pairs (places-of room) letters pairs 0 pairs (store-in room places) budget) answer room₁
-      → Ends room places budget whole-list answer room₁
+  pub on-listed : t ≡ true → {answer : Checked} {room₁ : List ℕ}
+      → Ends room places budget budget (check-pairs (places-of room) letters pairs 0 pairs (store-in room places) budget) answer room₁
+      → Ends room places budget budget whole-list answer room₁
   on-listed e n = rw (opening-listed (places-of room) letters pairs x y (store-in room places) budget (sym is ∙ e)) n

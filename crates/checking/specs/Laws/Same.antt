@@ -4,41 +4,44 @@
 use Prim.Native.Nat.{ℕ, suc, _+_, _-_, _/_, _<_, _≤_}
 use native.Mathlib.Omega.{arith}
 use mathlib.Core.Bool.{Bool, true, false}
-use mathlib.Core.List.{List, [], _∷_, append-nil}
-use mathlib.Core.Path.{_≡_, refl, sym, _∙_, ap, ap₂, subst}
+use mathlib.Core.List.{List, [], _∷_}
+use mathlib.Core.Path.{_≡_, refl, _∙_, ap, ap₂, subst}
 use lib.Dec.{ltb}
 use lib.ListN.{length, getD}
+use Rattle.answers.specs.Comparing.{are-same, are-different, word-room-short, refused-by}
+use Rattle.answers.specs.Checking.{is-accepted}
 use Rattle.language.specs.Word.{Bytes, IsByte, Listed}
 use Rattle.language.specs.Language.{Language, language}
-use Rattle.cards.specs.declared.record.Record.{Record}
-use Rattle.cards.specs.declared.examine.Standing.{Standing}
-use Rattle.cards.specs.declared.examine.Standing.the-variants.{Good as GoodStanding, Refused}
-use Rattle.cards.specs.Record.{records, run-of}
+use Rattle.records.specs.declared.record.Record.{Record}
+use Rattle.refusals.specs.declared.Standing.{Standing}
+use Rattle.refusals.specs.declared.Standing.the-variants.{Good as GoodStanding, Refused}
+use Rattle.records.specs.Record.{records, run-of}
 use Rattle.cards.specs.Examine.{pattern-card}
 use Rattle.cards.specs.Meaning.{card-pattern}
-use Rattle.cards.specs.Laws.Record.{length-run, records-of-run}
+use Rattle.records.specs.Laws.Record.{length-run, records-of-run}
 use Rattle.store.specs.Room.{wrong-room}
-use Rattle.store.specs.Loading.{load}
+use Rattle.loading.specs.Loading.{load}
 use Rattle.store.specs.Laws.Wall.{Grows, grows-length, Ready}
-use Rattle.store.specs.Laws.OwnPlaces.{own-places, own-place, own-loaded}
-use Rattle.store.specs.Laws.OwnCard.{own-card-good}
+use Rattle.loading.specs.Laws.OwnPlaces.{own-places, own-place, own-loaded}
+use Rattle.loading.specs.Laws.OwnCard.{own-card-good}
 use Rattle.pairs.specs.declared.pair.Pair.{Pair}
-use Rattle.pairs.specs.Pair.{pair-at, first-pairs, run-of-pairs}
+use Rattle.pairs.specs.Pair.{pair-at, run-of-pairs}
 use Rattle.pairs.specs.Room.{wrong-pair-room, listed-pairs}
 use Rattle.pairs.specs.Tried.{tried}
 use Rattle.pairs.specs.Opening.{Opening}
-use Rattle.pairs.specs.Laws.Pair.{length-pair-run, first-of-pair-run}
+use Rattle.pairs.specs.Laws.Pair.{length-pair-run}
+use Rattle.pairs.specs.Laws.Room.{listed-of-run}
 use Rattle.pairs.specs.Laws.LegalRoom.{legal-pair-room, not-wrong-pair-room}
 use Rattle.pairs.specs.Laws.Tried.{tried-rise, tried-bytes}
 use Rattle.pairs.specs.Laws.Opening.{BothOpened, OpenLaw, both-opened, was-filled, open-law}
-use Rattle.comparing.specs.Cost.{list-cost}
-use Rattle.comparing.specs.Search.{Search, same, different, stopped, search}
-use Rattle.comparing.specs.Compare.{compare-standing, are-same, are-different, word-room-short, refused-by, of-search, search-opened, compare-by, compare-outcome, Outcome as Comparing, told-at as told-comparing}
-use Rattle.comparing.specs.Laws.Course.{SearchCourse, course-same, course-different, course-stopped, search-course}
+use Rattle.searching.specs.Cost.{list-cost}
+use Rattle.searching.specs.Search.{Search, same, different, stopped, search}
+use Rattle.comparing.specs.Compare.{compare-standing, of-search, search-opened, compare-by, compare-outcome, Outcome as Comparing, told-at as told-comparing}
+use Rattle.searching.specs.Laws.Course.{SearchCourse, course-same, course-different, course-stopped, search-course}
 use Rattle.comparing.specs.Laws.Refusals.{unrefused}
-use Rattle.comparing.specs.Laws.Search.{Ends, ends-same, ends-different, ends-stopped, search-law}
+use Rattle.searching.specs.Laws.Search.{Ends, ends-same, ends-different, ends-stopped, search-law}
 use Rattle.checking.specs.Check.{check-list}
-use Rattle.checking.specs.Outcome.{mapped, is-accepted, told-at, of-checking, check-loaded, check-opened, check-by, check-outcome}
+use Rattle.checking.specs.Outcome.{mapped, told-at, of-checking, check-loaded, check-opened, check-by, check-outcome}
 use Rattle.checking.specs.Point.{GoodTable}
 use Rattle.checking.specs.Laws.Accepts.{good-accepted, same-good}
 use Rattle.checking.specs.Laws.Refusals.{Unrefused, no-refusal, below-named}
@@ -167,13 +170,6 @@ same-cost room pairs letters bytes x y store budget ready i j store′ table lef
     go (course-different cost paid again) f = let z : _≡_ {A = ℕ} 0 1 = cc in absurd (omega arith)
     go (course-stopped h l) f = let z : _≡_ {A = ℕ} 0 1 = cc in absurd (omega arith)
 
--- A table laid down as a list is read back.
-table-read : (table : List Pair) → listed-pairs (run-of-pairs table) ≡ table
-table-read table =
-    let n : length (run-of-pairs table) / 8 ≡ length table = omega (arith, length-pair-run table) in
-    ap (λ (k : ℕ). first-pairs k (run-of-pairs table)) n
-    ∙ subst (λ (s : List ℕ). first-pairs (length table) s ≡ table) (append-nil (run-of-pairs table)) (first-of-pair-run table [])
-
 module _ (left right : List ℕ) (lefts : Bytes left) (rights : Bytes right) (work pairs budget : ℕ) {o : Comparing} (h : SameFound left right work pairs budget o) where
   found-table : SameTable (tried left right) (work / 8) (pairs / 8) (h .x) (h .y) (h .store₀) (h .store) (h .table)
   found-table =
@@ -198,7 +194,7 @@ module _ (left right : List ℕ) (lefts : Bytes left) (rights : Bytes right) (wo
         room-legal = h .room-legal;
         list-legal =
             not-wrong-pair-room (length (run-of-pairs (h .table))) (record { some = omega arith; not-large = omega arith; whole = omega arith });
-        named = rw (count, table-read (h .table)) (below-named (length (h .store)) (h .table) (t .inside));
+        named = rw (count, listed-of-run (h .table)) (below-named (length (h .store)) (h .table) (t .inside));
       }
 
   pass : check-outcome left right (run-of (h .store)) (run-of-pairs (h .table)) work budget ≡ told-at is-accepted (h .store) (budget - h .unspent)
@@ -215,7 +211,7 @@ module _ (left right : List ℕ) (lefts : Bytes left) (rights : Bytes right) (wo
       ∙ ap (check-opened (work / 8) (tried left right) (records (run-of (h .store))) (listed-pairs (run-of-pairs (h .table))) budget)
       (h .both .enough (work / 8) (omega (arith, grows-length (t .grows))))
       ∙ ap₂ (λ (l : List Pair) (r : List Record). check-loaded (work / 8) (tried left right) l budget (h .x) (h .y) (load (work / 8) (h .store₀) r))
-      (table-read (h .table)) (records-of-run (h .store))
+      (listed-of-run (h .table)) (records-of-run (h .store))
       ∙ ap (check-loaded (work / 8) (tried left right) (h .table) budget (h .x) (h .y))
       (own-loaded (work / 8) (h .store₀) (h .store) (h .both .kept .ready .good) (t .ready .good) (t .grows) within)
       ∙ ap₂ (λ (l : List Pair) (b : ℕ). of-checking budget (check-list (work / 8) (tried left right) l (h .x) (h .y) (h .store) b))

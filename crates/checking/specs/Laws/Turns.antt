@@ -4,13 +4,14 @@ use Prim.Native.Nat.{ℕ, suc}
 use mathlib.Core.Bool.{Bool, true, false, Bool·beq}
 use mathlib.Core.List.{List, _∷_}
 use mathlib.Core.Path.{_≡_, refl, sym, _∙_, ap}
-use Rattle.cards.specs.declared.record.Record.{Record}
-use Rattle.cards.specs.Record.{child}
+use Rattle.answers.specs.Checking.{at-opening, at-marks, at-letter}
+use Rattle.records.specs.declared.record.Record.{Record}
+use Rattle.records.specs.Record.{child}
 use Rattle.cards.specs.Mark.{marked}
 use Rattle.derivative.specs.Derivative.{Deriving, derived, stopped, derive}
 use Rattle.pairs.specs.declared.pair.Pair.{Pair}
 use Rattle.pairs.specs.Pair.{stands-in}
-use Rattle.checking.specs.Check.{Checking, rejected, cut-off, Passing, passes, ends, at-opening, at-marks, at-letter, check-letters, check-pairs, check-list}
+use Rattle.checking.specs.Check.{Checking, rejected, cut-off, Passing, passes, ends, check-letters, check-pairs, check-list}
 
 -- Equal marks test as equal.
 pub beq-same : (p q : Bool) → p ≡ q → Bool·beq p q ≡ true

@@ -8,11 +8,11 @@ use mathlib.Core.Path.{_≡_, refl, sym, _∙_, ap, ap₂, subst}
 use lib.Dec.{ltb}
 use lib.ListN.{length, take}
 use Rattle.language.specs.Word.{Bytes}
-use Rattle.cards.specs.declared.record.Record.{Record}
-use Rattle.cards.specs.declared.examine.Standing.{Standing}
-use Rattle.cards.specs.declared.examine.Standing.the-variants.{Good, Refused}
+use Rattle.records.specs.declared.record.Record.{Record}
+use Rattle.refusals.specs.declared.Standing.{Standing}
+use Rattle.refusals.specs.declared.Standing.the-variants.{Good, Refused}
 use Rattle.language.specs.Language.{language}
-use Rattle.cards.specs.Record.{records, run-of}
+use Rattle.records.specs.Record.{records, run-of}
 use Rattle.cards.specs.Meaning.{card-pattern}
 use Rattle.store.specs.Room.{store-in, places-of, laid, fresh-store}
 use Rattle.store.specs.Good.{GoodStore}
@@ -20,8 +20,7 @@ use Rattle.store.specs.Laws.Room.{laid-laid}
 use Rattle.store.specs.Laws.Wall.{grows-length, Kept}
 use Rattle.store.specs.Laws.LegalRoom.{LegalRoom, legal-room}
 use Rattle.store.specs.Laws.GoodRoom.{places-after, store-after}
-use Rattle.store.specs.Laws.FreshRoom.{grown-good}
-use Rattle.pairs.specs.declared.pair.Pair.{Pair}
+use Rattle.loading.specs.Laws.FreshRoom.{grown-good}
 use Rattle.pairs.specs.declared.opening.Opened.{Opened}
 use Rattle.pairs.specs.declared.opening.Opened.the-variants.{At, Full}
 use Rattle.pairs.specs.Pair.{run-of-pairs}
@@ -32,14 +31,15 @@ use Rattle.pairs.specs.Told.{CanOpen, told-opening, Opens}
 use Rattle.pairs.specs.Laws.Tried.{tried-bytes}
 use Rattle.pairs.specs.Laws.LegalRoom.{legal-pair-room}
 use Rattle.pairs.specs.Laws.Opening.{OpenLaw, both-opened, was-filled, open-law}
-use Rattle.comparing.specs.declared.Comparison.{Comparison}
-use Rattle.comparing.specs.declared.Comparison.the-variants.{Refused as RefusedComparison}
-use Rattle.comparing.specs.Search.{Search, same, different, stopped, search}
-use Rattle.comparing.specs.Compare.{compare-standing, are-different, word-room-short, Told, told, Outcome, told-at, of-search, search-opened, compare-by, compare-outcome}
+use Rattle.answers.specs.declared.Comparison.{Comparison}
+use Rattle.answers.specs.declared.Comparison.the-variants.{Refused as RefusedComparison}
+use Rattle.searching.specs.Search.{Search, same, different, stopped, search}
+use Rattle.answers.specs.Comparing.{Told}
+use Rattle.comparing.specs.Compare.{compare-standing, Outcome, of-word, of-search, search-opened, compare-by, compare-outcome}
 use Rattle.comparing.specs.Promise.{TrueVerdict, Leaves, Compares}
-use Rattle.comparing.specs.Told.{LegalPairs, end-store}
+use Rattle.searching.specs.Told.{LegalPairs, end-store}
 use Rattle.comparing.specs.Laws.Compare.{compare-true}
-use Rattle.comparing.specs.Laws.Keeps.{KeepsSearch, keeps-same, keeps-different, keeps-stopped, search-keeps}
+use Rattle.searching.specs.Laws.Keeps.{KeepsSearch, keeps-same, keeps-different, keeps-stopped, search-keeps}
 use Rattle.comparing.specs.Laws.Refusals.{Unrefused, unrefused}
 
 -- The store that an outcome leaves is the search's.
@@ -48,11 +48,7 @@ outcome-store word budget (same store table left) = refl
 outcome-store word budget (stopped number store table left) = refl
 outcome-store word budget (different w left-has store table left) = go (ltb word (length w))
   where
-    go : (b : Bool)
-        → (elim b as (λ _. Outcome) [
-          | true ↦ told-at (word-room-short (length w)) store table (budget - left) []
-          | false ↦ told-at (are-different (length w) left-has) store table (budget - left) w
-        ]) .store ≡ store
+    go : (short : Bool) → of-word w left-has store table (budget - left) short .store ≡ store
     go true = refl
     go false = refl
 

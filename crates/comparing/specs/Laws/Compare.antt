@@ -1,20 +1,18 @@
 -- What a comparison's verdict means. "Same": the languages are equal. "Different": the word is in exactly one language, on the side told, no
 -- longer than the pairs placed, and every word of bytes before it is in both or in neither. Number 10: such a word is longer than the word room.
-use Prim.Native.Nat.{ℕ, _-_, _/_, _<_, _≤_}
-use native.Mathlib.Omega.{arith}
+use Prim.Native.Nat.{ℕ, _-_, _/_}
 use mathlib.Core.Bool.{Bool, true, false}
-use mathlib.Core.List.{List, []}
+use mathlib.Core.List.{List}
 use mathlib.Core.Path.{_≡_, refl}
 use lib.Dec.{ltb}
 use borrow.Author.Tests.{ltb-true, ltb-false}
 use lib.ListN.{length}
-use Rattle.language.specs.Word.{Word, Bytes}
-use Rattle.language.specs.Language.{Language, language, Equal}
+use Rattle.language.specs.Word.{Bytes}
+use Rattle.language.specs.Language.{Language, language}
 use Rattle.language.specs.Laws.Words.{over-wider}
-use Rattle.cards.specs.declared.record.Record.{Record}
-use Rattle.cards.specs.declared.examine.Standing.{Standing}
-use Rattle.cards.specs.declared.examine.Standing.the-variants.{Good, Refused}
-use Rattle.cards.specs.Record.{records}
+use Rattle.records.specs.declared.record.Record.{Record}
+use Rattle.refusals.specs.declared.Standing.{Standing}
+use Rattle.refusals.specs.declared.Standing.the-variants.{Good, Refused}
 use Rattle.cards.specs.Examine.{pattern-card}
 use Rattle.cards.specs.Meaning.{card-pattern}
 use Rattle.store.specs.Room.{wrong-room}
@@ -22,12 +20,13 @@ use Rattle.pairs.specs.Tried.{tried}
 use Rattle.pairs.specs.Opening.{Opening}
 use Rattle.pairs.specs.Laws.Tried.{tried-rise, tried-bytes, tried-represent}
 use Rattle.pairs.specs.Laws.Opening.{OpenLaw, both-opened, was-filled, open-law}
-use Rattle.comparing.specs.Search.{Search}
-use Rattle.comparing.specs.Compare.{compare-standing, Verdict, are-same, are-different, refused-by, word-room-short, Outcome, told-at, of-search, search-opened, compare-by, compare-outcome}
-use Rattle.comparing.specs.Promise.{FirstWord, TrueVerdict, same-true, different-true, short-true, refused-true}
+use Rattle.searching.specs.Search.{Search}
+use Rattle.comparing.specs.Compare.{compare-standing, Outcome, of-word, of-search, search-opened, compare-by, compare-outcome}
+use Rattle.comparing.specs.Promise.{TrueVerdict, same-true, different-true, short-true, refused-true}
+use Rattle.searching.specs.FirstWord.{FirstWord}
 use Rattle.comparing.specs.Laws.Refusals.{unrefused}
-use Rattle.comparing.specs.Laws.Search.{Ends, ends-same, ends-different, ends-stopped, search-law}
-use Rattle.comparing.specs.Laws.Meaning.{same-equal, first-of-all}
+use Rattle.searching.specs.Laws.Search.{Ends, ends-same, ends-different, ends-stopped, search-law}
+use Rattle.searching.specs.Laws.Meaning.{same-equal, first-of-all}
 
 module _ (left right : List ℕ) (lefts : Bytes left) (rights : Bytes right) (work pairs word budget : ℕ) where
   abbrev A : Language
@@ -47,12 +46,7 @@ module _ (left right : List ℕ) (lefts : Bytes left) (rights : Bytes right) (wo
       found : FirstWord A B w left-has (length table)
       found = record { bytes = over-wider (tried-bytes left right) o; only = one; first = first-of-all (tried left right) A B w before (tried-represent left right lefts rights); not-longer = short }
 
-      go : (p : Bool) → ltb word (length w) ≡ p
-          → True
-          (elim p as (λ _. Outcome) [
-            | true ↦ told-at (word-room-short (length w)) s table (budget - b) []
-            | false ↦ told-at (are-different (length w) left-has) s table (budget - b) w
-          ])
+      go : (short : Bool) → ltb word (length w) ≡ short → True (of-word w left-has s table (budget - b) short)
       go true e = short-true w left-has found (ltb-true word (length w) e)
       go false e = different-true found (ltb-false word (length w) e)
   of-ended (ends-stopped kept h fits) = refused-true

@@ -9,9 +9,9 @@ use mathlib.Core.Path.{_≡_, refl}
 use lib.Dec.{ltb}
 use lib.ListN.{length}
 use Rattle.language.specs.Word.{Bytes}
-use Rattle.cards.specs.declared.record.Record.{Record}
-use Rattle.cards.specs.declared.examine.Standing.{Standing}
-use Rattle.cards.specs.declared.examine.Standing.the-variants.{Good, Refused}
+use Rattle.records.specs.declared.record.Record.{Record}
+use Rattle.refusals.specs.declared.Standing.{Standing}
+use Rattle.refusals.specs.declared.Standing.the-variants.{Good, Refused}
 use Rattle.store.specs.Room.{fresh-store}
 use Rattle.store.specs.Laws.Wall.{Filled}
 use Rattle.pairs.specs.declared.pair.Pair.{Pair}
@@ -19,12 +19,13 @@ use Rattle.pairs.specs.Tried.{tried}
 use Rattle.pairs.specs.Opening.{Opening}
 use Rattle.pairs.specs.Laws.Tried.{tried-bytes}
 use Rattle.pairs.specs.Laws.Opening.{BothOpened, OpenLaw, both-opened, was-filled, open-law}
-use Rattle.comparing.specs.Search.{Search}
-use Rattle.comparing.specs.Compare.{compare-standing, Verdict, are-same, are-different, refused-by, word-room-short, Outcome, told-at, of-search, search-opened, compare-by, compare-outcome}
-use Rattle.comparing.specs.Laws.Refusals.{Unrefused, unrefused, no-refusal, at-once-number}
-use Rattle.comparing.specs.Laws.Search.{Halts, no-free-place, nothing-left, no-free-pair}
-use Rattle.comparing.specs.Laws.Keeps.{KeepsSearch, keeps-same, keeps-different, keeps-stopped, search-keeps}
-use Rattle.comparing.specs.Laws.Course.{SearchCourse, course-same, course-different, course-stopped, search-course}
+use Rattle.searching.specs.Search.{Search}
+use Rattle.answers.specs.Comparing.{Verdict, are-same, are-different, refused-by, word-room-short}
+use Rattle.comparing.specs.Compare.{compare-standing, Outcome, told-at, of-word, of-search, search-opened, compare-by, compare-outcome}
+use Rattle.comparing.specs.Laws.Refusals.{Unrefused, unrefused, at-once-number}
+use Rattle.searching.specs.Laws.Search.{Halts, no-free-place, nothing-left, no-free-pair}
+use Rattle.searching.specs.Laws.Keeps.{KeepsSearch, keeps-same, keeps-different, keeps-stopped, search-keeps}
+use Rattle.searching.specs.Laws.Course.{SearchCourse, course-same, course-different, course-stopped, search-course}
 
 -- How a call comes to its outcome.
 pub data Call (left right : List ℕ) (work pairs word budget : ℕ) : Outcome → Type 0 where
@@ -95,14 +96,6 @@ module _ {work pairs budget : ℕ} {store : List Record} {table : List Pair} (vi
   counted-refusal : (number : ℕ) → (number ≡ 7 → length store ≡ work / 8) → (number ≡ 8 → visits ≡ budget) → (number ≡ 9 → length table ≡ pairs / 8)
       → Counts work pairs budget (told-at (refused-by number) store table visits written)
   counted-refusal number by-7 by-8 by-9 = counted (refused-by number) (λ e. by-7 (same-number e)) (λ e. by-8 (same-number e)) (λ e. by-9 (same-number e))
-
--- What is told of a word that was found, by whether the word room is short.
-abbrev pub of-word : List ℕ → Bool → List Record → List Pair → ℕ → Bool → Outcome
-of-word w left-has store table visits short =
-    elim short as (λ _. Outcome) [
-      | true ↦ told-at (word-room-short (length w)) store table visits []
-      | false ↦ told-at (are-different (length w) left-has) store table visits w
-    ]
 
 -- What is told of a search.
 module _ (work pairs word budget : ℕ) where

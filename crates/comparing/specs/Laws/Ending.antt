@@ -1,34 +1,36 @@
 -- The code of telling the end of a search: "same", a stop, or "different" with its word read off the table that stands in the pair room.
-use Prim.Native.Nat.{ℕ, _+_, _-_, _*_, _/_, _<_, _≤_}
+use Prim.Native.Nat.{ℕ, _-_, _*_, _<_, _≤_}
 use native.Mathlib.Omega.{arith}
-use mathlib.Core.Bool.{Bool, true, false}
-use mathlib.Core.List.{List, [], _++_}
-use mathlib.Core.Path.{_≡_, refl, sym, _∙_, ap, ap₂, subst}
+use mathlib.Core.Bool.{Bool}
+use mathlib.Core.List.{List, []}
+use mathlib.Core.Path.{_≡_, refl, _∙_, ap, ap₂}
 use lib.Dec.{ltb}
 use borrow.Author.Tests.{lt-ltb, le-ltb}
-use lib.ListN.{length, drop}
+use lib.ListN.{length, getD}
 use Rattle.language.specs.Word.{Bytes}
-use Rattle.cards.specs.declared.record.Record.{Record}
+use Rattle.language.specs.Laws.Words.{bytes-all}
+use Rattle.records.specs.declared.record.Record.{Record}
 use Rattle.store.specs.Room.{store-in, places-of, laid}
 use Rattle.store.specs.Good.{GoodStore}
 use Rattle.store.specs.Laws.GoodRoom.{room-ready}
 use Rattle.derivative.specs.Laws.Rooms.{in-store}
 use Rattle.pairs.specs.declared.pair.Pair.{Pair}
-use Rattle.pairs.specs.Room.{table-in, pairs-of, laid-pairs, most-pairs}
+use Rattle.pairs.specs.Room.{table-in, pairs-of, laid-pairs}
 use Rattle.pairs.specs.Laws.Room.{table-of-laid, length-laid-pairs}
-use Rattle.comparing.specs.declared.searching.End.{End}
-use Rattle.comparing.specs.declared.searching.End.the-variants.{Same, Different, Stopped}
+use Rattle.searching.specs.declared.going.End.{End}
+use Rattle.searching.specs.declared.going.End.the-variants.{Same, Different, Stopped}
 use Rattle.comparing.specs.declared.reading_off.Word.{Word as CodeWord}
 use Rattle.comparing.specs.declared.reading_off.Word.the-variants.{Written, Short}
-use Rattle.comparing.specs.declared.Comparison.{Comparison}
-use Rattle.comparing.specs.declared.Comparison.the-variants.{Same as SameTold, Different as DifferentTold, Refused, WordRoomShort}
-use Rattle.comparing.specs.Search.{Search, same, different, stopped, search}
-use Rattle.comparing.specs.Compare.{are-same, are-different, refused-by, word-room-short, Outcome, told, told-at, of-search}
+use Rattle.answers.specs.declared.Comparison.the-variants.{Same as SameTold, Different as DifferentTold, Refused, WordRoomShort}
+use Rattle.searching.specs.Search.{Search, different, search}
+use Rattle.answers.specs.Comparing.{are-different, word-room-short}
+use Rattle.comparing.specs.Compare.{Outcome, of-word, of-search}
 use Rattle.comparing.specs.Promise.{Leaves}
-use Rattle.comparing.specs.Told.{LegalPairs, OrderedPairs, found-word, TellsEnd, tells-same, tells-different, tells-stopped, end-store, end-table, Ends, Wrote, was-written, was-short}
-use Rattle.comparing.specs.Laws.Words.{Ordered}
-use Rattle.comparing.specs.Laws.Keeps.{KeptBoth, KeepsSearch, keeps-same, keeps-different, keeps-stopped, search-keeps}
-use Rattle.comparing.specs.Laws.Rooms.{listed-byte}
+use Rattle.comparing.specs.Told.{Wrote, was-written, was-short}
+use Rattle.searching.specs.Told.{LegalPairs, OrderedPairs, found-word, TellsEnd, tells-same, tells-different, tells-stopped, end-store, end-table, Ends}
+use Rattle.searching.specs.Laws.Words.{Ordered}
+use Rattle.searching.specs.Laws.Keeps.{KeepsSearch, keeps-same, keeps-different, keeps-stopped, search-keeps}
+use Rattle.searching.specs.Laws.Rooms.{listed-byte}
 
 -- A search that was made in two rooms, with what the code told of it.
 pub record Searched (work : List ℕ) (places : ℕ) (pairs letters : List ℕ) (x y budget : ℕ) (end : End) (work′ pairs′ : List ℕ) : Type 0 where
@@ -38,10 +40,11 @@ pub record Searched (work : List ℕ) (places : ℕ) (pairs letters : List ℕ) 
   pub bytes : Bytes letters
   pub ends : Ends work pairs (search (places-of work) (pairs-of pairs) letters x y (store-in work places) budget) end work′ pairs′
 
-pub searched : (work : List ℕ) (places : ℕ) (pairs letters : List ℕ) (x y budget : ℕ) → GoodStore work places → (x < places) × (y < places) → LegalPairs pairs → Bytes letters
+pub searched : {work : List ℕ} {places : ℕ} {pairs letters : List ℕ} {x y budget : ℕ} → GoodStore work places → (x < places) × (y < places) → LegalPairs pairs
+    → ((i : ℕ) → getD letters i 0 < 256)
     → {end : End} {work′ pairs′ : List ℕ} → Ends work pairs (search (places-of work) (pairs-of pairs) letters x y (store-in work places) budget) end work′ pairs′
     → Searched work places pairs letters x y budget end work′ pairs′
-searched work places pairs letters x y budget g i l b e = record { good = g; inside = i; legal = l; bytes = b; ends = e }
+searched {letters = letters} g i l b e = record { good = g; inside = i; legal = l; bytes = bytes-all letters b; ends = e }
 
 -- What the code told is one thing.
 same-not-different : {end : End} {a b c d e f g h : ℕ} {s : Bool} → end ≡ Same a b c → end ≡ Different d e s f g h → ⊥
@@ -182,11 +185,7 @@ module _ {work : List ℕ} {places : ℕ} {pairs letters : List ℕ} {x y budget
       wrote = rw (table-there, ← (ending .word-is)) at w
 
       abbrev outcome-by : Bool → Outcome
-      outcome-by b =
-          elim b as (λ _. Outcome) [
-            | true ↦ told-at (word-room-short (length (ending .word))) (ending .store) (ending .table) (budget - left) []
-            | false ↦ told-at (are-different (length (ending .word)) left-has) (ending .store) (ending .table) (budget - left) (ending .word)
-          ]
+      outcome-by short = of-word (ending .word) left-has (ending .store) (ending .table) (budget - left) short
 
       outcome-is : of-search (length word) budget found ≡ outcome-by (ltb (length word) (length (ending .word)))
       outcome-is = ap (of-search (length word) budget) (ending .is)

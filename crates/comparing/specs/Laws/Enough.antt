@@ -10,10 +10,10 @@ use lib.Dec.{ltb}
 use borrow.Author.Tests.{ltb-false, le-ltb}
 use lib.ListN.{length}
 use Rattle.language.specs.Word.{Bytes}
-use Rattle.cards.specs.declared.record.Record.{Record}
-use Rattle.cards.specs.declared.examine.Standing.{Standing}
-use Rattle.cards.specs.declared.examine.Standing.the-variants.{Good, Refused}
-use Rattle.cards.specs.Record.{records}
+use Rattle.records.specs.declared.record.Record.{Record}
+use Rattle.refusals.specs.declared.Standing.{Standing}
+use Rattle.refusals.specs.declared.Standing.the-variants.{Good, Refused}
+use Rattle.records.specs.Record.{records}
 use Rattle.store.specs.Room.{wrong-room}
 use Rattle.store.specs.Laws.Wall.{grows-length}
 use Rattle.pairs.specs.declared.pair.Pair.{Pair}
@@ -21,13 +21,14 @@ use Rattle.pairs.specs.Room.{wrong-pair-room}
 use Rattle.pairs.specs.Tried.{tried}
 use Rattle.pairs.specs.Opening.{Opening, opened, unopened, open-both}
 use Rattle.pairs.specs.Laws.Opening.{BothOpened}
-use Rattle.comparing.specs.Search.{Search, same, different, stopped, search}
-use Rattle.comparing.specs.Cost.{list-cost}
-use Rattle.comparing.specs.Compare.{compare-standing, Verdict, are-same, are-different, refused-by, word-room-short, Outcome, told-at, of-search, search-opened, compare-by, compare-outcome}
-use Rattle.comparing.specs.Laws.Keeps.{KeepsSearch, keeps-same, keeps-different, keeps-stopped}
-use Rattle.comparing.specs.Laws.Course.{SearchCourse, course-same, course-different, course-stopped}
+use Rattle.searching.specs.Search.{Search, same, different, stopped, search}
+use Rattle.searching.specs.Cost.{list-cost}
+use Rattle.answers.specs.Comparing.{Verdict, are-same, are-different, refused-by, word-room-short}
+use Rattle.comparing.specs.Compare.{compare-standing, Outcome, told-at, of-word, of-search, search-opened, compare-by, compare-outcome}
+use Rattle.searching.specs.Laws.Keeps.{KeepsSearch, keeps-same, keeps-different, keeps-stopped}
+use Rattle.searching.specs.Laws.Course.{SearchCourse, course-same, course-different, course-stopped}
 use Rattle.comparing.specs.Laws.Refusals.{Unrefused, no-refusal}
-use Rattle.comparing.specs.Laws.Counts.{Call, refused-at-once, full-in-opening, searched, call, of-word, compare-counts}
+use Rattle.comparing.specs.Laws.Counts.{Call, refused-at-once, full-in-opening, searched, call, compare-counts}
 
 -- A final answer: same or different.
 pub data Final : Verdict → Type 0 where

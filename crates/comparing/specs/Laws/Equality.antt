@@ -10,8 +10,10 @@ use Rattle.language.specs.Word.{Word, Bytes}
 use Rattle.language.specs.Language.{Language, Pattern, language, Equal}
 use Rattle.language.specs.Laws.Equality.{equal-refl, equal-sym, equal-trans, union-equal, concatenation-equal, star-equal}
 use Rattle.cards.specs.Meaning.{card-pattern}
-use Rattle.comparing.specs.Compare.{Verdict, are-same, are-different, word-room-short, compare-outcome}
-use Rattle.comparing.specs.Promise.{OnlyOne, only-left, only-right, TrueVerdict, same-true, different-true, short-true, refused-true}
+use Rattle.answers.specs.Comparing.{Verdict, are-same, are-different, word-room-short}
+use Rattle.comparing.specs.Compare.{compare-outcome}
+use Rattle.comparing.specs.Promise.{TrueVerdict, same-true, different-true, short-true, refused-true}
+use Rattle.searching.specs.FirstWord.{OnlyOne, only-left, only-right}
 use Rattle.comparing.specs.Related.{Related, itself, judged, swap, chain, choices, sequences, repeats}
 use Rattle.comparing.specs.Laws.Compare.{compare-true}
 

@@ -1,45 +1,22 @@
 -- The promise of `compare` has one outcome: two answers with their rooms that both meet it are the same. What the rooms held before plays
 -- no part: rooms of the same sizes are told and written the same.
 use Prim.Native.Nat.{ℕ, _*_}
-use native.Mathlib.Omega.{arith}
-use mathlib.Core.List.{List, [], _∷_, _++_}
+use mathlib.Core.List.{List, _++_}
 use mathlib.Core.Path.{_≡_, refl, sym, _∙_, ap}
 use lib.ListN.{length, take, drop}
 use lib.Seq.{take-at, drop-at}
-use Rattle.cards.specs.declared.record.Record.{Record}
-use Rattle.cards.specs.Record.{run-of}
-use Rattle.cards.specs.Laws.Record.{length-run}
+use Rattle.answers.specs.declared.Comparison.{Comparison}
+use Rattle.answers.specs.Laws.Comparing.{told-apart}
+use Rattle.records.specs.declared.record.Record.{Record}
+use Rattle.records.specs.Record.{run-of}
+use Rattle.records.specs.Laws.Record.{length-run}
 use Rattle.store.specs.Room.{laid}
 use Rattle.pairs.specs.declared.pair.Pair.{Pair}
 use Rattle.pairs.specs.Pair.{run-of-pairs}
 use Rattle.pairs.specs.Room.{laid-pairs}
 use Rattle.pairs.specs.Laws.Pair.{length-pair-run}
-use Rattle.comparing.specs.declared.Comparison.{Comparison}
-use Rattle.comparing.specs.declared.Comparison.the-variants.{Same, Different, Refused, WordRoomShort}
-use Rattle.comparing.specs.Compare.{Verdict, are-same, are-different, refused-by, word-room-short, Told, told, Outcome, compare-outcome}
+use Rattle.comparing.specs.Compare.{Outcome, compare-outcome}
 use Rattle.comparing.specs.Promise.{Compares}
-
--- The answer with this verdict and these counts.
-answer-of : Verdict → ℕ → ℕ → ℕ → Comparison
-answer-of are-same pairs places visits = Same pairs places visits
-answer-of (are-different length left-has) pairs places visits = Different length left-has pairs places visits
-answer-of (refused-by number) pairs places visits = Refused number pairs places visits
-answer-of (word-room-short wanted) pairs places visits = WordRoomShort wanted pairs places visits
-
-abbrev answer-told : Told → Comparison
-answer-told t = answer-of (t .says) (t .pairs) (t .places) (t .visits)
-
--- It is the answer.
-had-back : (a : Comparison) → answer-told (told a) ≡ a
-unfolding answer-of
-had-back (Same pairs places visits) = refl
-had-back (Different length left-has pairs places visits) = refl
-had-back (Refused number pairs places visits) = refl
-had-back (WordRoomShort wanted pairs places visits) = refl
-
--- The paper's number and values tell any two answers apart: each answer can be had back from them.
-pub told-apart : (a b : Comparison) → told a ≡ told b → a ≡ b
-told-apart a b e = sym (had-back a) ∙ ap answer-told e ∙ had-back b
 
 -- Two answers with their rooms, for the same cards, rooms and budget.
 

@@ -6,14 +6,16 @@ use mathlib.Core.List.{List, [], _∷_, _++_, append-assoc}
 use mathlib.Core.Path.{_≡_, refl, sym, _∙_, ap, subst}
 use lib.ListN.{length, drop, set, length-append, length-set}
 use lib.Seq.{drop-cons, getD-set-same, drop-set-lt}
+use Rattle.refusals.specs.Limits.{most-pairs}
 use Rattle.pairs.specs.declared.pair.Pair.{Pair}
 use Rattle.pairs.specs.Pair.{first-pairs, pair-record, pair-at}
-use Rattle.pairs.specs.Room.{table-in, most-pairs}
+use Rattle.pairs.specs.Room.{table-in}
 use Rattle.pairs.specs.Laws.Pair.{length-first-pairs, first-pair-at}
 use Rattle.comparing.specs.declared.reading_off.Word.the-variants.{Written, Short}
-use Rattle.comparing.specs.ReadOff.{word-to, word-of}
-use Rattle.comparing.specs.Told.{OrderedPairs, found-word, Wrote, was-written, was-short}
-use Rattle.comparing.specs.Laws.Words.{word-step, word-short}
+use Rattle.searching.specs.ReadOff.{word-to, word-of}
+use Rattle.comparing.specs.Told.{Wrote, was-written, was-short}
+use Rattle.searching.specs.Told.{OrderedPairs, found-word}
+use Rattle.searching.specs.Laws.Words.{word-step, word-short}
 
 -- The word of pair number 0 is empty.
 no-letter : (table : List Pair) {at : ℕ} → at ≡ 0 → word-of table at ≡ []

@@ -8,10 +8,10 @@ use borrow.Fn.Kinds.{In}
 use borrow.Fn.PlainCycle.{Measures, is, falls, and}
 use Rattle.derivative.specs.Laws.Rooms.{first-next, choice-with-stopped, choice-stopped, sequence-stopped, repeat-stopped, choice-made, repeat-made, choice-derived, sequence-derived, product-next, product-full, product-placed, product-marked, product-unmarked, unpaid, children-lower, visited-nothing, visited-empty-word, visited-unknown, visited-letter, visited-choice, visited-sequence, visited-repeat}
 use Rattle.cards.proofs.examine.as_mark.Reads as as-mark-reads
-use Rattle.cards.proofs.kind.named.Reads as named-reads
-use Rattle.cards.proofs.record.read.Reads as read-reads
+use Rattle.records.proofs.kind.named.Reads as named-reads
+use Rattle.records.proofs.record.read.Reads as read-reads
 use Rattle.store.proofs.making.make.Reads as make-reads
-use Rattle.store.proofs.making.marked_at.Reads as marked-at-reads
+use Rattle.store.proofs.interning.marked_at.Reads as marked-at-reads
 use Rattle.derivative.proofs.made.Reads as made-reads
 use Rattle.derivative.proofs.price.Reads as price-reads
 use Rattle.derivative.proofs.after_product.Reads as after-product

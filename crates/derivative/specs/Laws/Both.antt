@@ -6,7 +6,7 @@ use mathlib.Core.List.{List}
 use mathlib.Core.Path.{_≡_, refl, sym, _∙_, ap, ap₂}
 use lib.ListN.{length}
 use Rattle.language.specs.Word.{IsByte}
-use Rattle.cards.specs.declared.record.Record.{Record}
+use Rattle.records.specs.declared.record.Record.{Record}
 use Rattle.store.specs.Room.{store-in, places-of, laid}
 use Rattle.store.specs.Good.{GoodStore}
 use Rattle.store.specs.Laws.Room.{laid-laid}

@@ -15,21 +15,22 @@ use Rattle.language.specs.Language.{Language, Union, Concatenation, Pattern, la
 use Rattle.language.specs.Laws.Equality.{equal-refl, equal-sym, equal-trans, union-equal, concatenation-equal}
 use Rattle.language.specs.Laws.Quotient.{Quotient}
 use Rattle.language.specs.Laws.Derivative.{nullable, nullable-right, quotient-equal, quotient-empty-word, quotient-same-letter, quotient-other-letter, quotient-marked, quotient-unmarked, quotient-star}
-use Rattle.cards.specs.declared.kind.Kind.{Kind}
-use Rattle.cards.specs.declared.kind.Kind.the-variants.{Nothing, EmptyWord, Letter}
-use Rattle.cards.specs.declared.record.Record.{Record}
-use Rattle.cards.specs.Record.{child}
-use Rattle.cards.specs.Kind.{kind-of}
+use Rattle.records.specs.declared.kind.Kind.{Kind}
+use Rattle.records.specs.declared.kind.Kind.the-variants.{Nothing, EmptyWord, Letter, Choice, Sequence, Repeat, Unknown}
+use Rattle.records.specs.declared.record.Record.{Record}
+use Rattle.records.specs.Record.{child}
+use Rattle.records.specs.Kind.{kind-of, columns, choice-kind, sequence-kind}
 use Rattle.cards.specs.Mark.{bit, marked}
 use Rattle.cards.specs.Meaning.{patterns, numbered}
-use Rattle.cards.specs.Standing.{Line}
+use Rattle.cards.specs.Standing.{LineOf, Line}
+use Rattle.cards.specs.Laws.Line.{lower-left}
 use Rattle.store.specs.Laws.Wall.{Grows, grows-trans, grows-length, grows-language, Ready, kept-refl, course-grows}
-use Rattle.store.specs.Laws.Making.{lower-left, language-of-record, language-at-0, language-at-1, marked-nullable}
+use Rattle.store.specs.Laws.Making.{language-of-record, language-at-0, language-at-1, marked-nullable}
 use Rattle.store.specs.Laws.Languages.{language-at, operator-over}
-use Rattle.derivative.specs.Derivative.{Deriving, derived, stopped, price, choice-kind, sequence-kind, and-then, making, choice-with, after-product, derive-choice, derive-sequence, derive-repeat, derive-record, derive-visited, derive-to, derive}
+use Rattle.derivative.specs.Derivative.{Deriving, derived, stopped, price, and-then, making, choice-with, after-product, derive-choice, derive-sequence, derive-repeat, derive-record, derive-visited, derive-to, derive}
 use Rattle.derivative.specs.Visits.{child-visits, visits}
 use Rattle.derivative.specs.Laws.Visits.{counted, visits-kept, counted-says, visits-of-record}
-use Rattle.derivative.specs.Laws.Steps.{Step, no-budget, StepLaw, was-done, was-ended, joined-law, making-law, answer-law}
+use Rattle.derivative.specs.Laws.Steps.{Step, no-budget, StepLaw, was-done, was-ended, joined-law, two-makeable, making-law, answer-law}
 
 -- The place means the language.
 abbrev pub Means : Language → List Record → ℕ → Type 0
@@ -88,7 +89,7 @@ module _ (depth letter : ℕ) (byte : IsByte letter) (ih : LawTo depth letter) w
       (λ y store₁ budget₁ done.
       let inside : x < length store₁ = omega (arith, grows-length (done .kept .grows)) in
       making-law (done .kept .ready)
-      (record { line = Line.choice refl refl inside (done .inside); byte = omega arith })
+      (two-makeable choice-kind refl inside (done .inside))
       (λ p store₂ placed.
       equal-trans (placed .means)
       (union-equal (equal-trans (grows-language (done .kept .grows) x l) e) (done .means)))))
@@ -130,7 +131,7 @@ module _ (depth letter : ℕ) (byte : IsByte letter) (ih : LawTo depth letter) w
       at-cost (zero-add (cond left-marked (visits store right) 0))
       (joined-law (λ r s b. making r sequence-kind x right s b) (λ y r s b. after-product (D r) r right left-marked y s b)
       (making-law (done .kept .ready)
-      (record { line = Line.sequence refl refl (done .inside) inside₁; byte = omega arith })
+      (two-makeable sequence-kind refl (done .inside) inside₁)
       {Mean = Means (Concatenation (Quotient letter (language-at store left)) (language-at store right))}
       (λ p store₂ placed. equal-trans (placed .means) (concatenation-equal (done .means) (grows-language g₁ right m))))
       (λ y store₂ budget₂ done₂.
@@ -154,7 +155,7 @@ module _ (depth letter : ℕ) (byte : IsByte letter) (ih : LawTo depth letter) w
       (λ x store₁ budget₁ done.
       let inside : self < length store₁ = omega (arith, grows-length (done .kept .grows)) in
       making-law (done .kept .ready)
-      (record { line = Line.sequence refl refl (done .inside) inside; byte = omega arith })
+      (two-makeable sequence-kind refl (done .inside) inside)
       (λ p store₂ placed. equal-trans (placed .means) (concatenation-equal (done .means) (grows-language (done .kept .grows) self m)))))
 
   -- A record that was visited, by its line of the kind table.
@@ -223,28 +224,26 @@ module _ (depth letter : ℕ) (byte : IsByte letter) (ih : LawTo depth letter) w
         → StepLaw (λ r′ s b. derive-record (kind-of (r .kind)) (D r′) r′ letter r m place s b) room store budget
         (child-visits (kind-of (r .kind)) (counted store (r .left)) (counted store (r .right)))
         (Means Quotient-here) (derive-record (kind-of (r .kind)) (D room) room letter r m place store budget)
-    record-law budget line = at-language by-operator (go line)
+    record-law budget line = at-language by-operator (go (kind-of (r .kind)) refl line)
       where
-        go : Line place (child store place) → KindLaw (kind-of (r .kind)) budget
-        go (Line.nothing k _ _ _) = subst (λ (n : ℕ). KindLaw (kind-of n) budget) (sym k) (nothing-law budget)
-        go (Line.empty-word k _ _ _) = subst (λ (n : ℕ). KindLaw (kind-of n) budget) (sym k) (empty-word-law budget)
-        go (Line.letter k _ _) = subst (λ (n : ℕ). KindLaw (kind-of n) budget) (sym k) (letter-law budget)
-        go (Line.choice k _ ll lr) =
-            subst (λ (n : ℕ). KindLaw (kind-of n) budget) (sym k)
-            (choice-law ready (r .left) (r .right) (omega (arith, ll)) (omega (arith, lr)) (omega (arith, ll)) (omega (arith, lr)))
-        go (Line.sequence k _ ll lr) =
-            subst (λ (n : ℕ). KindLaw (kind-of n) budget) (sym k)
-            (at-cost (ap (λ (b : Bool). visits store (r .left) + cond b (visits store (r .right)) 0) (sym (counted-says store (r .left) (left-inside ll))))
-            (at-language (by-mark ll)
-            (sequence-law ready (r .left) (r .right) (omega (arith, ll)) (omega (arith, lr)) (omega (arith, ll)) (omega (arith, lr)) m)))
-        go (Line.repeat k _ ll _) =
-            subst (λ (n : ℕ). KindLaw (kind-of n) budget) (sym k)
-            (at-language
+        go : (k : Kind) → kind-of (r .kind) ≡ k → LineOf (columns k) place (child store place) → KindLaw k budget
+        go Nothing e o = nothing-law budget
+        go EmptyWord e o = empty-word-law budget
+        go Letter e o = letter-law budget
+        go Choice e o =
+            choice-law ready (r .left) (r .right) (omega (arith, o .left)) (omega (arith, o .right)) (omega (arith, o .left)) (omega (arith, o .right))
+        go Sequence e o =
+            at-cost (ap (λ (b : Bool). visits store (r .left) + cond b (visits store (r .right)) 0) (sym (counted-says store (r .left) (left-inside (o .left)))))
+            (at-language (by-mark (o .left))
+            (sequence-law ready (r .left) (r .right) (omega (arith, o .left)) (omega (arith, o .right)) (omega (arith, o .left)) (omega (arith, o .right)) m))
+        go Repeat e o =
+            at-language
             (equal-trans
             (concatenation-equal (equal-refl (Quotient letter L))
-            (subst (λ (n : ℕ). Equal (language-at store place) (operator-over (kind-of n) (r .letter) L R)) k (language-of-record (ready .good) place inside)))
+            (subst (λ (k : Kind). Equal (language-at store place) (operator-over k (r .letter) L R)) e (language-of-record (ready .good) place inside)))
             (equal-sym (quotient-star letter L)))
-            (repeat-law ready (r .left) place (omega (arith, ll)) (omega (arith, ll)) inside))
+            (repeat-law ready (r .left) place (omega (arith, o .left)) (omega (arith, o .left)) inside)
+        go Unknown e o = absurd (false≢true (o .known))
 
     -- The record that a later store holds at the place is the same.
     as-there : (room′ : ℕ) (s : List Record) (b : ℕ) → Grows store s → r .left < length store

@@ -8,15 +8,15 @@ use mathlib.Core.Path.{_≡_, refl, sym, _∙_, ap, ap₂, subst}
 use lib.Dec.{eqb}
 use lib.ListN.{length}
 use Rattle.language.specs.Word.{IsByte}
-use Rattle.cards.specs.declared.kind.Kind.{Kind}
-use Rattle.cards.specs.declared.kind.Kind.the-variants.{Nothing, EmptyWord, Letter, Choice, Sequence, Repeat, Unknown}
-use Rattle.cards.specs.declared.record.Record.{Record}
-use Rattle.cards.specs.Record.{record-at, child}
-use Rattle.cards.specs.Kind.{kind-of}
+use Rattle.records.specs.declared.kind.Kind.{Kind}
+use Rattle.records.specs.declared.kind.Kind.the-variants.{Nothing, EmptyWord, Letter, Choice, Sequence, Repeat, Unknown}
+use Rattle.records.specs.declared.record.Record.{Record}
+use Rattle.records.specs.Record.{record-at, child}
+use Rattle.records.specs.Kind.{kind-of, columns, choice-kind, sequence-kind}
 use Rattle.cards.specs.Mark.{bit, marked}
-use Rattle.cards.specs.Standing.{Line}
-use Rattle.store.specs.declared.making.Made.{Made}
-use Rattle.store.specs.declared.making.Made.the-variants.{Placed, Full}
+use Rattle.cards.specs.Standing.{LineOf, Line}
+use Rattle.store.specs.declared.interning.Made.{Made}
+use Rattle.store.specs.declared.interning.Made.the-variants.{Placed, Full}
 use Rattle.store.specs.Room.{store-in, places-of, laid}
 use Rattle.store.specs.Making.{Making, placed, full, make, after}
 use Rattle.store.specs.Told.{told-making}
@@ -26,9 +26,9 @@ use Rattle.store.specs.Laws.Wall.{grows-length, Ready, Kept, kept-refl, kept-tr
 use Rattle.store.specs.Laws.GoodRoom.{room-ready, length-store-in, places-after, store-after, good-after}
 use Rattle.derivative.specs.declared.Derived.{Derived}
 use Rattle.derivative.specs.declared.Derived.the-variants.{At, Stopped}
-use Rattle.derivative.specs.Derivative.{Deriving, derived, stopped, price, choice-kind, sequence-kind, and-then, of-making, making, choice-with, after-product, with-product, derive-choice, derive-sequence, derive-repeat, derive-record, derive-to}
+use Rattle.derivative.specs.Derivative.{Deriving, derived, stopped, price, and-then, of-making, making, choice-with, after-product, with-product, derive-choice, derive-sequence, derive-repeat, derive-record, derive-to}
 use Rattle.derivative.specs.Told.{after-deriving, Comes, of-made}
-use Rattle.derivative.specs.Laws.Steps.{Step, StepLaw, was-done, was-ended, making-law}
+use Rattle.derivative.specs.Laws.Steps.{Step, StepLaw, was-done, was-ended, two-makeable, making-law}
 use Rattle.derivative.specs.Laws.Derivative.{is-unpaid, is-paid, derive-to-law}
 
 -- What a derivation keeps, in a room of so many places: the wall, and a derived place is in the store.
@@ -63,11 +63,11 @@ making-keeps ready can budget = step-keeps (making-law {budget = budget} ready c
 
 choice-keeps : {cap : ℕ} {store : List Record} → Ready cap store → (x y : ℕ) → x < length store → y < length store
     → (budget : ℕ) → Keeps cap store (making cap choice-kind x y store budget)
-choice-keeps ready x y l m budget = making-keeps ready (record { line = Line.choice refl refl l m; byte = omega arith }) budget
+choice-keeps ready x y l m budget = making-keeps ready (two-makeable choice-kind refl l m) budget
 
 sequence-keeps : {cap : ℕ} {store : List Record} → Ready cap store → (x y : ℕ) → x < length store → y < length store
     → (budget : ℕ) → Keeps cap store (making cap sequence-kind x y store budget)
-sequence-keeps ready x y l m budget = making-keeps ready (record { line = Line.sequence refl refl l m; byte = omega arith }) budget
+sequence-keeps ready x y l m budget = making-keeps ready (two-makeable sequence-kind refl l m) budget
 
 -- Deriving by a letter to a depth, in a room of so many places.
 abbrev D : ℕ → ℕ → ℕ → ℕ → List Record → ℕ → Deriving
@@ -278,19 +278,19 @@ module _ (letter : ℕ) (byte : IsByte letter) {room : List ℕ} {places : ℕ} 
       other-there : other < length (store-in room₁ taken)
       other-there = let m = first-next e .more in in-store room₁ {places = taken} (omega arith)
 
-      pub choice-made : {told : Made} {exit : List ℕ} → Makes room₁ taken 3 other x told exit → {answer : Derived} → answer ≡ of-made told rest
+      pub choice-made : {told : Made} {exit : List ℕ} → Makes room₁ taken choice-kind other x told exit → {answer : Derived} → answer ≡ of-made told rest
           → DerivesChoiceWith letter room places other place budget answer exit
       choice-made (t, w) f depth l =
           comes-then good (first-stands e depth l) (λ cap y s b. making cap choice-kind other y s b)
           (choice-keeps ready other x other-there x-there rest)
-          (comes-made (make (places-of room₁) (store-in room₁ taken) 3 0 other x) rest t w f)
+          (comes-made (make (places-of room₁) (store-in room₁ taken) choice-kind 0 other x) rest t w f)
 
-      pub repeat-made : {told : Made} {exit : List ℕ} → Makes room₁ taken 4 x other told exit → {answer : Derived} → answer ≡ of-made told rest
+      pub repeat-made : {told : Made} {exit : List ℕ} → Makes room₁ taken sequence-kind x other told exit → {answer : Derived} → answer ≡ of-made told rest
           → DerivesRepeat letter room places place other budget answer exit
       repeat-made (t, w) f depth l =
           comes-then good (first-stands e depth l) (λ cap y s b. making cap sequence-kind y other s b)
           (sequence-keeps ready x other x-there other-there rest)
-          (comes-made (make (places-of room₁) (store-in room₁ taken) 4 0 x other) rest t w f)
+          (comes-made (make (places-of room₁) (store-in room₁ taken) sequence-kind 0 x other) rest t w f)
 
       pub choice-derived : {answer : Derived} {exit : List ℕ} → DerivesChoiceWith letter room₁ taken x other rest answer exit
           → DerivesChoice letter room places place other budget answer exit
@@ -311,11 +311,11 @@ module _ (letter : ℕ) (byte : IsByte letter) {room : List ℕ} {places : ℕ} 
           (h depth m))
 
   -- The product of x with the right part is made first.
-  module _ (x right budget : ℕ) (both : (x < places) × (right < places)) {told : Made} {room₁ : List ℕ} (made : Makes room places 4 x right told room₁) where
+  module _ (x right budget : ℕ) (both : (x < places) × (right < places)) {told : Made} {room₁ : List ℕ} (made : Makes room places sequence-kind x right told room₁) where
     product-comes : {told′ : Made} → told ≡ told′
         → Comes room (making (places-of room) sequence-kind x right (store-in room places) budget) (of-made told′ budget) room₁
     product-comes e =
-        comes-made (make (places-of room) (store-in room places) 4 0 x right) budget (made .0) (made .1) (ap (λ (m : Made). of-made m budget) (sym e))
+        comes-made (make (places-of room) (store-in room places) sequence-kind 0 x right) budget (made .0) (made .1) (ap (λ (m : Made). of-made m budget) (sym e))
 
     product-stands : {y taken : ℕ} → told ≡ Placed y taken
         → Stands room places (making (places-of room) sequence-kind x right (store-in room places) budget) y taken budget room₁
@@ -350,24 +350,6 @@ module _ (letter : ℕ) {room : List ℕ} {places : ℕ} (good : GoodStore room 
   pub product-unmarked : left-marked ≡ false → DerivesAfterProduct letter room places right left-marked product budget (At product places budget) room
   product-unmarked e depth l = rw e (derived-here good product budget)
 
--- What the kind table says of the children of a record of a kind.
-abbrev Lower : Kind → ℕ → Record → Type 0
-Lower Nothing at r = Unit {0}
-Lower EmptyWord at r = Unit {0}
-Lower Letter at r = Unit {0}
-Lower Choice at r = (r .left < at) × (r .right < at)
-Lower Sequence at r = (r .left < at) × (r .right < at)
-Lower Repeat at r = r .left < at
-Lower Unknown at r = Unit {0}
-
-lower : {at : ℕ} {r : Record} → Line at r → Lower (kind-of (r .kind)) at r
-lower {at} {r} (Line.nothing k _ _ _) = subst (λ (n : ℕ). Lower (kind-of n) at r) (sym k) tt
-lower {at} {r} (Line.empty-word k _ _ _) = subst (λ (n : ℕ). Lower (kind-of n) at r) (sym k) tt
-lower {at} {r} (Line.letter k _ _) = subst (λ (n : ℕ). Lower (kind-of n) at r) (sym k) tt
-lower {at} {r} (Line.choice k _ l m) = subst (λ (n : ℕ). Lower (kind-of n) at r) (sym k) (l, m)
-lower {at} {r} (Line.sequence k _ l m) = subst (λ (n : ℕ). Lower (kind-of n) at r) (sym k) (l, m)
-lower {at} {r} (Line.repeat k _ l _) = subst (λ (n : ℕ). Lower (kind-of n) at r) (sym k) l
-
 -- The visit to a place.
 module _ (letter : ℕ) {room : List ℕ} {places : ℕ} (good : GoodStore room places) (place budget : ℕ) (inside : place < places) {fee : ℕ} (f : fee ≡ price place) where
   pub unpaid : budget < fee → Derives letter room places place budget (Stopped 8 places budget) room
@@ -379,10 +361,11 @@ module _ (letter : ℕ) {room : List ℕ} {places : ℕ} (good : GoodStore room 
     here : child (store-in room places) place ≡ r
     here = child-in-room places room place inside ∙ sym read
 
-    pub children-lower : {K : Kind} → k ≡ K → Lower K place r
+    -- Its line of the kind table, and with it that its children stand lower.
+    pub children-lower : {K : Kind} → k ≡ K → LineOf (columns K) place r
     children-lower e =
-        subst (λ (K : Kind). Lower K place r) (sym named ∙ e)
-        (lower (subst (Line place) here (good .good .obeys place (in-store room inside) .line)))
+        subst (λ (K : Kind). LineOf (columns K) place r) (sym named ∙ e)
+        (subst (Line place) here (good .good .obeys place (in-store room inside) .line))
 
     visited : {K : Kind} → k ≡ K → {answer : Derived} {exit : List ℕ}
         → ((depth : ℕ) → place ≤ depth

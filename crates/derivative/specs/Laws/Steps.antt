@@ -3,10 +3,15 @@ use Prim.Native.Nat.{ℕ, _+_, _<_, _≤_}
 use native.Mathlib.Nat.{add-assoc, zero-add, le-refl, le-of-eq}
 use native.Mathlib.Omega.{arith}
 use mathlib.Core.List.{List}
-use mathlib.Core.Path.{_≡_, sym, _∙_, ap, ap₂}
+use mathlib.Core.Path.{_≡_, refl, sym, _∙_, ap, ap₂, subst}
 use lib.ListN.{length}
-use Rattle.cards.specs.declared.record.Record.{Record}
-use Rattle.store.specs.Making.{Making}
+use Rattle.refusals.specs.Numbers.{no-free-place, no-budget-left}
+use Rattle.records.specs.declared.kind.Kind.the-variants.{Choice}
+use Rattle.records.specs.declared.kind.Columns.{Columns}
+use Rattle.records.specs.declared.record.Record.{Record}
+use Rattle.records.specs.Kind.{kind-of, columns}
+use Rattle.cards.specs.Standing.{LineOf}
+use Rattle.store.specs.Making.{Making, new-record}
 use Rattle.store.specs.Laws.Wall.{Ready, Kept, kept-refl, kept-trans, Course, course-legs, course-same, Makeable, Placed, MakeLaw, was-placed, was-full, placed-again}
 use Rattle.store.specs.Laws.Making.{make-law}
 use Rattle.derivative.specs.Derivative.{Deriving, derived, stopped, and-then, of-making, making}
@@ -26,8 +31,8 @@ pub record Done (f : Step) (room : ℕ) (store : List Record) (budget cost : ℕ
 
 -- Why a step stopped: a new record and no free place, or a visit and no budget.
 pub data Why (room : ℕ) (store′ : List Record) (budget′ : ℕ) : ℕ → Type 0 where
-  no-place : length store′ ≡ room → Why room store′ budget′ 7
-  no-budget : budget′ ≡ 0 → Why room store′ budget′ 8
+  no-place : length store′ ≡ room → Why room store′ budget′ no-free-place
+  no-budget : budget′ ≡ 0 → Why room store′ budget′ no-budget-left
 
 -- The step was stopped: what was placed by then stands, and what was spent by then is at most the cost.
 pub record Ended (room : ℕ) (store : List Record) (budget cost number : ℕ) (store′ : List Record) (budget′ : ℕ) : Type 0 where
@@ -73,6 +78,17 @@ module _ (f : Step) (next : ℕ → Step) {room : ℕ} {store : List Record} {bu
   joined-law (was-ended {budget′} a) g =
       let part : budget ≤ cost + cost₂ + budget′ = let p = a .part in omega arith in
       was-ended (record { kept = a .kept; why = a .why; spent = a .spent; part = part })
+
+-- A record of a kind that has two children and no letter can be made of any two places of the store.
+pub two-makeable : (kind : ℕ) → columns (kind-of kind) ≡ columns Choice → {store : List Record} {left right : ℕ}
+    → left < length store → right < length store → Makeable store kind 0 left right
+two-makeable kind alike {store} {left} {right} l m =
+    record {
+      line =
+          subst (λ (line : Columns). LineOf line (length store) (new-record store kind 0 left right)) (sym alike)
+          (record { known = refl; letter = refl; left = l; right = m });
+      byte = omega arith;
+    }
 
 -- Making, as a step of no cost.
 pub making-law : {room : ℕ} {store : List Record} {budget : ℕ} → Ready room store → {kind left right : ℕ} → Makeable store kind 0 left right

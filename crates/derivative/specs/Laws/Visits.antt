@@ -1,15 +1,19 @@
 -- The visits of a place: the visit to itself and those to the children that its rule needs; they stay the same when records are added.
 use Prim.Native.Nat.{ℕ, _+_, _<_}
 use native.Mathlib.Omega.{arith}
+use mathlib.Core.Bool.{true}
 use mathlib.Core.List.{List}
-use mathlib.Core.Path.{_≡_, _∙_, ap}
+use mathlib.Core.Path.{_≡_, refl, _∙_, ap, ap₂}
 use lib.ListN.{length, take, length-take}
-use Rattle.cards.specs.declared.record.Record.{Record}
+use Rattle.records.specs.declared.kind.Kind.{Kind}
+use Rattle.records.specs.declared.kind.Kind.the-variants.{Nothing, EmptyWord, Letter, Choice, Sequence, Repeat, Unknown}
+use Rattle.records.specs.declared.record.Record.{Record}
 use Rattle.cards.specs.InOrder.{in-order}
-use Rattle.cards.specs.Record.{child}
-use Rattle.cards.specs.Kind.{kind-of}
+use Rattle.records.specs.Record.{child}
+use Rattle.records.specs.Kind.{kind-of, columns}
 use Rattle.cards.specs.Mark.{marked}
 use Rattle.cards.specs.Standing.{Line}
+use Rattle.cards.specs.Laws.Line.{left-child, right-child}
 use Rattle.cards.specs.Laws.InOrder.{length-in-order, value-kept, value-at, before-kept}
 use Rattle.store.specs.Laws.Wall.{Grows}
 use Rattle.derivative.specs.Derivative.{price}
@@ -29,26 +33,29 @@ visits-kept g place l = ap (λ (n : Counted). n .visits) (counted-kept g place l
 pub counted-says : (store : List Record) (place : ℕ) → place < length store → counted store place .says ≡ marked (child store place)
 counted-says store place l = ap (λ (n : Counted). n .says) (value-at record-visits not-counted store place l)
 
+-- The visits to children go by the children that the kind has, and by no other.
+child-visits-same : (k : Kind) {a a′ b b′ : Counted} → (columns k .left ≡ true → a ≡ a′) → (columns k .right ≡ true → b ≡ b′)
+    → child-visits k a b ≡ child-visits k a′ b′
+child-visits-same Nothing e f = refl
+child-visits-same EmptyWord e f = refl
+child-visits-same Letter e f = refl
+child-visits-same Choice e f = ap₂ (child-visits Choice) (e refl) (f refl)
+child-visits-same Sequence e f = ap₂ (child-visits Sequence) (e refl) (f refl)
+child-visits-same Repeat {b = b} e f = ap (λ (a : Counted). child-visits Repeat a b) (e refl)
+child-visits-same Unknown e f = refl
+
 -- The visits of a record that obeys the kind table.
 pub visits-of-record : (store : List Record) (place : ℕ) → place < length store → Line place (child store place)
     → visits store place ≡ price place + child-visits (kind-of (child store place .kind)) (counted store (child store place .left)) (counted store (child store place .right))
 visits-of-record store place l o =
     ap (λ (n : Counted). n .visits) (value-at record-visits not-counted store place l)
-    ∙ ap (λ (n : ℕ). price n + child-visits (kind-of (child store place .kind)) (counted (take place store) (child store place .left)) (counted (take place store) (child store place .right))) here
-    ∙ go o
+    ∙ ap₂ (λ (n m : ℕ). price n + m) here
+    (child-visits-same (kind-of (child store place .kind))
+    (λ e. lower (child store place .left) (left-child o e))
+    (λ e. lower (child store place .right) (right-child o e)))
   where
     here : length (in-order record-visits (take place store)) ≡ place
     here = length-in-order record-visits (take place store) ∙ length-take place store ∙ omega arith
 
     lower : (i : ℕ) → i < place → counted (take place store) i ≡ counted store i
     lower i m = before-kept record-visits not-counted store place i l m
-
-    go : Line place (child store place)
-        → price place + child-visits (kind-of (child store place .kind)) (counted (take place store) (child store place .left)) (counted (take place store) (child store place .right))
-        ≡ price place + child-visits (kind-of (child store place .kind)) (counted store (child store place .left)) (counted store (child store place .right))
-    go (Line.nothing k _ _ _) = rw k
-    go (Line.empty-word k _ _ _) = rw k
-    go (Line.letter k _ _) = rw k
-    go (Line.choice k _ m n) = rw (lower (child store place .left) m, lower (child store place .right) n)
-    go (Line.sequence k _ m n) = rw (lower (child store place .left) m, lower (child store place .right) n)
-    go (Line.repeat k _ m _) = rw (k, lower (child store place .left) m)

@@ -1,50 +1,26 @@
 -- From what is read and what is laid down to the promise: the job read is the one that the text is the text of, or there is none.
 use Prim.Native.Nat.{ℕ, _-_, _<_, _≤_}
+use native.Mathlib.Nat.{le-trans}
 use native.Mathlib.Omega.{arith}
 use mathlib.Core.List.{List}
 use mathlib.Core.Path.{_≡_, sym, _∙_, ap, ap₂, subst}
 use lib.ListN.{length, take}
-use Rattle.jobtext.specs.declared.reading.Job.{Job as CodeJob}
-use Rattle.jobtext.specs.declared.reading.Job.the-variants.{Compare, Match, Bad}
-use Rattle.jobtext.specs.Form.{Job, compare-job, match-job, job-text, WellFormed}
+use Rattle.text.specs.Told.{Puts}
+use Rattle.jobform.specs.declared.Job.{Job as CodeJob}
+use Rattle.jobform.specs.declared.Job.the-variants.{Compare, Match, Bad}
+use Rattle.jobform.specs.Form.{Job, compare-job, match-job, job-text, WellFormed}
+use Rattle.jobform.specs.Told.{Reads}
+use Rattle.jobform.specs.Laws.Job.{JobRead, comparison-read, match-read, nothing-read}
 use Rattle.jobtext.specs.Answer.{answer-text, refused-text}
-use Rattle.jobtext.specs.Promise.{most-job, Answers, answered, refused-12, AnswersIn}
-use Rattle.jobtext.specs.Told.{Reads, reads-compare, reads-match, reads-no-job, Lays}
+use Rattle.jobtext.specs.Promise.{most-answer, Answers, answered, refused-12, AnswersIn}
+use Rattle.refusals.specs.Limits.{most-job}
+use Rattle.jobtext.specs.Told.{Lays}
 use Rattle.jobtext.specs.Laws.Judging.{from-start}
 
--- What is read: the job, whose parts stand at the start of the two rooms.
-pub record JobRead (text left second : List ℕ) (l s : ℕ) (j : Job) : Type 0 where
-  pub left-room : l ≤ length left
-  pub second-room : s ≤ length second
-  pub well : WellFormed j
-  pub is : text ≡ job-text j
-
-pub comparison-read : {text left second : List ℕ} {j : CodeJob} {l s budget : ℕ} → Reads text j left second → j ≡ Compare l s budget
-    → JobRead text left second l s (compare-job (take l left) (take s second) budget)
-comparison-read {text} {left} {second} {l = l} {s} {budget} (reads-compare {l = l′} {s = s′} {budget = b′} p q w e) f =
-    let a : l′ ≡ l = cc in
-    let b : s′ ≡ s = cc in
-    let c : b′ ≡ budget = cc in
-    let same = ap₂ (λ (x y : ℕ). compare-job (take x left) (take y second) b′) a b ∙ ap (λ (x : ℕ). compare-job (take l left) (take s second) x) c in
-    record { left-room = omega arith; second-room = omega arith; well = subst WellFormed same w; is = e ∙ ap job-text same }
-comparison-read (reads-match p q w e) f = let z : _≡_ {A = ℕ} 0 1 = cc in absurd (omega arith)
-comparison-read (reads-no-job n) f = let z : _≡_ {A = ℕ} 0 1 = cc in absurd (omega arith)
-
-pub match-read : {text left second : List ℕ} {j : CodeJob} {l s budget : ℕ} → Reads text j left second → j ≡ Match l s budget
-    → JobRead text left second l s (match-job (take l left) (take s second) budget)
-match-read (reads-compare p q w e) f = let z : _≡_ {A = ℕ} 0 1 = cc in absurd (omega arith)
-match-read {text} {left} {second} {l = l} {s} {budget} (reads-match {l = l′} {s = s′} {budget = b′} p q w e) f =
-    let a : l′ ≡ l = cc in
-    let b : s′ ≡ s = cc in
-    let c : b′ ≡ budget = cc in
-    let same = ap₂ (λ (x y : ℕ). match-job (take x left) (take y second) b′) a b ∙ ap (λ (x : ℕ). match-job (take l left) (take s second) x) c in
-    record { left-room = omega arith; second-room = omega arith; well = subst WellFormed same w; is = e ∙ ap job-text same }
-match-read (reads-no-job n) f = let z : _≡_ {A = ℕ} 0 1 = cc in absurd (omega arith)
-
-nothing-read : {text left second : List ℕ} {j : CodeJob} → Reads text j left second → j ≡ Bad → (k : Job) → WellFormed k → text ≡ job-text k → ⊥
-nothing-read (reads-compare p q w e) f = let z : _≡_ {A = ℕ} 0 1 = cc in absurd (omega arith)
-nothing-read (reads-match p q w e) f = let z : _≡_ {A = ℕ} 0 1 = cc in absurd (omega arith)
-nothing-read (reads-no-job n) f = n
+-- A text that is put from the start.
+pub lays : {out : List ℕ} {text : List ℕ} {to : ℕ} {out′ : List ℕ} → Puts out 0 text to out′ → to ≤ most-answer → most-answer ≤ length out′
+    → Lays out text to out′
+lays p l m = record { short = l; fits = le-trans l m; stands = p .stands; rest = p .rest }
 
 -- The answer to the job read is the answer to the text.
 job-answered : {text left second : List ℕ} {l s : ℕ} (j : Job) {lent : List ℕ} {to : ℕ} {out : List ℕ} → JobRead text left second l s j
@@ -84,7 +60,7 @@ none-answered {text} n lay =
 
 pub nothing-answered : {text left second : List ℕ} {j : CodeJob} {lent : List ℕ} {to : ℕ} {out : List ℕ} → Reads text j left second → j ≡ Bad
     → Lays lent (refused-text 12) to out → AnswersIn text lent to out
-nothing-answered r e = none-answered (λ j w f m. nothing-read r e j w f)
+nothing-answered r e = none-answered (λ j w f m. nothing-read r e .none-has j w f)
 
 pub too-long-answered : {text lent : List ℕ} {to : ℕ} {out : List ℕ} → most-job < length text → Lays lent (refused-text 12) to out
     → AnswersIn text lent to out

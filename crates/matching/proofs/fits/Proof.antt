@@ -1,8 +1,8 @@
--- `fits` comes to its outcome: refused at once it tells that; else it begins as the definition loads the card and judges as the
--- definition follows the word, and what is so told is true.
+-- `fits` comes to its outcome: refused at once it tells that; else it enters the card into a fresh store as the definition loads it and judges
+-- as the definition follows the word, and what is so told is true.
 use borrow.Author.Needs.{needs}
 use Rattle.language.specs.Laws.Words.{bytes-all}
-use Rattle.matching.specs.Laws.Rooms.{Lent, refused-at-once, can-begin, full-in-loading, begun-well, judged-begun}
+use Rattle.matching.specs.Laws.Call.{Lent, refused-at-once, enough, can-enter, full-in-loading, entered-well, judged-entered}
 use Rattle.matching.proofs.fits.Statement.{statement}
 use Rattle.matching.proofs.fits.Tie as tie
 
@@ -31,31 +31,39 @@ returns c = refused-at-once (lent (c .before .before .before)) (c .before .found
 enum-told : tie.Need-enum-told
 enum-told c = search needs
 
-begin-requires : tie.Need-begin-requires
-begin-requires c κs = can-begin (lent (c .before .before .before)) (c .before .enum-told .given .1)
+fresh-requires : tie.Need-fresh-requires
+fresh-requires c κs = enough (lent (c .before .before .before)) (c .before .enum-told .given .1)
 
-enum-known-begun : tie.Need-enum-known-begun
-enum-known-begun c = search needs
+enter-requires : tie.Need-enter-requires
+enter-requires c κs =
+    let f = c .before .before .before in
+    let e = f .before .before in
+    can-enter (lent (e .before .before)) (e .enum-told .given .1) (f .fresh .ensures .0) (f .fresh .ensures .1)
+
+enum-known-entered : tie.Need-enum-known-entered
+enum-known-entered c = search needs
 
 judge-requires : tie.Need-judge-requires
 judge-requires c κs =
-    begun-well (lent (c .before .before .before .before .before .before .before .before .before .before))
-    (c .before .before .before .before .before .before .before .before .enum-told .given .1)
-    (c .before .before .before .before .before .before .begin .ensures)
-    (c .before .before .begun .given .1)
+    let n = c .before .before .before .before .before .before in
+    let f = n .before .before .before .before in
+    let e = f .before .before in
+    entered-well (lent (e .before .before)) (e .enum-told .given .1) (f .fresh .ensures .0) (f .fresh .ensures .1) (n .enter .ensures)
+    (c .before .before .entered .given .1)
 
-enum-known-begun-2 : tie.Need-enum-known-begun-2
-enum-known-begun-2 c = search needs
+enum-known-entered-2 : tie.Need-enum-known-entered-2
+enum-known-entered-2 c = search needs
 
 same-length : tie.Need-same-length
 same-length c = search needs
 
 returns-2 : tie.Need-returns-2
 returns-2 c =
-    judged-begun (lent (c .before .before .before .before .before .before .before .before .before .before .before .before .before))
-    (c .before .before .before .before .before .before .before .before .before .before .before .enum-told .given .1)
-    (c .before .before .before .before .before .before .before .before .before .begin .ensures)
-    (c .before .before .before .before .before .begun .given .1)
+    let n = c .before .before .before .before .before .before .before .before .before in
+    let f = n .before .before .before .before in
+    let e = f .before .before in
+    judged-entered (lent (e .before .before)) (e .enum-told .given .1) (f .fresh .ensures .0) (f .fresh .ensures .1) (n .enter .ensures)
+    (c .before .before .before .before .before .entered .given .1)
     (c .before .before .judge .ensures)
 
 same-length-2 : tie.Need-same-length-2
@@ -63,10 +71,11 @@ same-length-2 c = search needs
 
 returns-3 : tie.Need-returns-3
 returns-3 c =
-    full-in-loading (lent (c .before .before .before .before .before .before .before .before .before))
-    (c .before .before .before .before .before .before .before .enum-told .given .1)
-    (c .before .before .before .before .before .begin .ensures)
-    (c .before .begun2 .given .1)
+    let n = c .before .before .before .before .before in
+    let f = n .before .before .before .before in
+    let e = f .before .before in
+    full-in-loading (lent (e .before .before)) (e .enum-told .given .1) (f .fresh .ensures .0) (f .fresh .ensures .1) (n .enter .ensures)
+    (c .before .entered2 .given .1)
 
 pub fits-spec : {M : Type 1} → statement M
 fits-spec =
@@ -76,10 +85,11 @@ fits-spec =
     enum-known-found
     returns
     enum-told
-    begin-requires
-    enum-known-begun
+    fresh-requires
+    enter-requires
+    enum-known-entered
     judge-requires
-    enum-known-begun-2
+    enum-known-entered-2
     same-length
     returns-2
     same-length-2

@@ -5,31 +5,33 @@ use mathlib.Core.Bool.{Bool, true, false, cond, false≢true}
 use mathlib.Core.List.{List, []}
 use mathlib.Core.Path.{_≡_, refl, sym, _∙_, ap, subst}
 use lib.ListN.{length}
+use Rattle.answers.specs.Matching.{yes, no, refused, Told}
 use Rattle.language.specs.Word.{Bytes, none}
 use Rattle.language.specs.Language.{language, Equal}
 use Rattle.language.specs.Laws.Equality.{equal-trans}
 use Rattle.language.specs.Laws.Quotient.{Quotients, quotients-to, quotients-from}
 use Rattle.language.specs.Laws.Derivative.{nullable, nullable-right}
-use Rattle.cards.specs.declared.record.Record.{Record}
-use Rattle.cards.specs.declared.examine.Standing.{Standing}
-use Rattle.cards.specs.declared.examine.Standing.the-variants.{Good, Refused}
-use Rattle.cards.specs.Record.{records, child}
+use Rattle.records.specs.declared.record.Record.{Record}
+use Rattle.refusals.specs.declared.Standing.{Standing}
+use Rattle.refusals.specs.declared.Standing.the-variants.{Good, Refused}
+use Rattle.refusals.specs.Numbers.{no-free-place, no-budget-left}
+use Rattle.records.specs.Record.{records, child}
 use Rattle.cards.specs.Mark.{marked}
 use Rattle.cards.specs.Meaning.{patterns, numbered, card-pattern}
 use Rattle.store.specs.Room.{fresh-store}
-use Rattle.store.specs.Loading.{root, Loading, load}
+use Rattle.loading.specs.Loading.{root, Loading, load}
 use Rattle.store.specs.Laws.Wall.{Filled, grows-length, anew}
 use Rattle.store.specs.Laws.Making.{marked-nullable}
 use Rattle.store.specs.Laws.Languages.{language-at}
-use Rattle.store.specs.Laws.FreshRoom.{load-fresh-law}
-use Rattle.store.specs.Laws.Cards.{CardLoaded, card-loaded}
-use Rattle.store.specs.Laws.Loading.{LoadLaw, all-loaded, was-full}
+use Rattle.loading.specs.Laws.FreshRoom.{load-fresh-law}
+use Rattle.loading.specs.Laws.Cards.{CardLoaded, card-loaded}
+use Rattle.loading.specs.Laws.Loading.{LoadLaw, all-loaded, was-full}
 use Rattle.derivative.specs.Derivative.{Deriving, derived, stopped}
 use Rattle.derivative.specs.Laws.Steps.{Done, Ended, Why, no-place, no-budget, StepLaw, was-done, was-ended}
 use Rattle.derivative.specs.Laws.Derivative.{Means}
 use Rattle.store.specs.Room.{wrong-room}
 use Rattle.matching.specs.Refusals.{match-standing}
-use Rattle.matching.specs.Fits.{yes, no, refused, Told, Outcome, follow, judged, follow-loaded, fits-in, fits-standing, fits-outcome}
+use Rattle.matching.specs.Fits.{Outcome, follow, judged, follow-loaded, fits-in, fits-standing, fits-outcome}
 use Rattle.matching.specs.Promise.{TrueOf}
 use Rattle.matching.specs.Along.{visits-along, visits-loaded, visits-standing, call-visits}
 use Rattle.store.specs.Laws.LegalRoom.{legal-room}
@@ -41,7 +43,7 @@ pub data Call (card word : List ℕ) (size budget : ℕ) : Outcome → Type 0 wh
   refused-at-once : {number : ℕ} → match-standing card word size ≡ Refused number
       → Call card word size budget (record { tells = record { says = refused number; places = 0; visits = 0 }; store = [] })
   full-in-loading : Unrefused card word size → {store : List Record} → Filled (size / 8) fresh-store store
-      → Call card word size budget (record { tells = record { says = refused 7; places = length store; visits = 0 }; store = store })
+      → Call card word size budget (record { tells = record { says = refused no-free-place; places = length store; visits = 0 }; store = store })
   stopped-on-the-way : Unrefused card word size → {places : List ℕ} {store : List Record} → CardLoaded card (size / 8) fresh-store places store
       → {number : ℕ} {store′ : List Record} {left : ℕ}
       → follow (size / 8) word (root places) store budget ≡ stopped number store′ left
@@ -133,8 +135,8 @@ pub record Counts (size budget : ℕ) (o : Outcome) : Type 0 where
   pub standing : o .tells .places ≡ length (o .store)
   pub within : o .tells .places ≤ size / 8
   pub affordable : o .tells .visits ≤ budget
-  pub at-7 : o .tells .says ≡ refused 7 → o .tells .places ≡ size / 8
-  pub at-8 : o .tells .says ≡ refused 8 → o .tells .visits ≡ budget
+  pub at-7 : o .tells .says ≡ refused no-free-place → o .tells .places ≡ size / 8
+  pub at-8 : o .tells .says ≡ refused no-budget-left → o .tells .visits ≡ budget
 
 same-number : {a b : ℕ} → refused a ≡ refused b → a ≡ b
 same-number e = cc

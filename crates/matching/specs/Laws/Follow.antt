@@ -10,7 +10,7 @@ use Rattle.language.specs.Language.{Language, Equal}
 use Rattle.language.specs.Laws.Equality.{equal-refl, equal-trans}
 use Rattle.language.specs.Laws.Quotient.{Quotient, Quotients}
 use Rattle.language.specs.Laws.Derivative.{quotient-equal}
-use Rattle.cards.specs.declared.record.Record.{Record}
+use Rattle.records.specs.declared.record.Record.{Record}
 use Rattle.store.specs.Laws.Wall.{Ready}
 use Rattle.store.specs.Laws.Languages.{language-at}
 use Rattle.derivative.specs.Derivative.{Deriving, derived, stopped, and-then, derive}

@@ -5,34 +5,14 @@ use mathlib.Core.List.{List}
 use mathlib.Core.Path.{_≡_, sym, _∙_, ap}
 use lib.ListN.{length, take, drop}
 use lib.Seq.{take-at, drop-at}
-use Rattle.cards.specs.declared.record.Record.{Record}
-use Rattle.cards.specs.Record.{run-of}
-use Rattle.cards.specs.Laws.Record.{length-run}
+use Rattle.answers.specs.declared.Match.{Match}
+use Rattle.answers.specs.Laws.Matching.{told-apart}
+use Rattle.records.specs.declared.record.Record.{Record}
+use Rattle.records.specs.Record.{run-of}
+use Rattle.records.specs.Laws.Record.{length-run}
 use Rattle.store.specs.Room.{laid}
-use Rattle.matching.specs.declared.Match.{Match}
-use Rattle.matching.specs.declared.Match.the-variants.{Yes, No, Refused}
-use Rattle.matching.specs.Fits.{Told, told, fits-outcome}
+use Rattle.matching.specs.Fits.{fits-outcome}
 use Rattle.matching.specs.Promise.{Fits}
-
--- The paper's number and values tell any two answers apart.
-
-places-of-told : {s t : Told} → s ≡ t → s .places ≡ t .places
-places-of-told e = ap (λ (x : Told). x .places) e
-
-visits-of-told : {s t : Told} → s ≡ t → s .visits ≡ t .visits
-visits-of-told e = ap (λ (x : Told). x .visits) e
-
-pub told-apart : (a b : Match) → told a ≡ told b → a ≡ b
-told-apart (Yes p v) (Yes q w) e = let i : p ≡ q = places-of-told e in let j : v ≡ w = visits-of-told e in cc
-told-apart (Yes p v) (No q w) e = let s = ap (λ (x : Told). x .says) e in cc
-told-apart (Yes p v) (Refused n q w) e = let s = ap (λ (x : Told). x .says) e in cc
-told-apart (No p v) (Yes q w) e = let s = ap (λ (x : Told). x .says) e in cc
-told-apart (No p v) (No q w) e = let i : p ≡ q = places-of-told e in let j : v ≡ w = visits-of-told e in cc
-told-apart (No p v) (Refused n q w) e = let s = ap (λ (x : Told). x .says) e in cc
-told-apart (Refused m p v) (Yes q w) e = let s = ap (λ (x : Told). x .says) e in cc
-told-apart (Refused m p v) (No q w) e = let s = ap (λ (x : Told). x .says) e in cc
-told-apart (Refused m p v) (Refused n q w) e =
-    let s = ap (λ (x : Told). x .says) e in let i : p ≡ q = places-of-told e in let j : v ≡ w = visits-of-told e in cc
 
 pub one-answer : {card word room : List ℕ} {budget : ℕ} {a b : Match} {r s : List ℕ} → Fits card word room budget a r → Fits card word room budget b s → a ≡ b
 one-answer {a = a} {b} f g = told-apart a b (f .tells ∙ sym (g .tells))

@@ -1,47 +1,50 @@
--- Where no refusal is due, the card is good, the word is short and the room is legal; and only then.
+-- A call of matching that is not refused at once, and the numbers by which one is: the laws of any order of refusals, of matching's.
 use Prim.Native.Nat.{ℕ, _≤_}
 use native.Mathlib.Omega.{arith}
 use mathlib.Core.Bool.{false}
 use mathlib.Core.List.{List}
-use mathlib.Core.Logic.{⊎-elim}
 use mathlib.Core.Path.{_≡_}
 use lib.Dec.{ltb}
 use lib.ListN.{length}
-use Rattle.cards.specs.declared.examine.Standing.the-variants.{Good, Refused}
-use Rattle.cards.specs.Examine.{_then_, refused-if, most-pattern-records, pattern-card}
-use Rattle.cards.specs.Laws.Order.{both-good, not-refused, then-number, if-number}
+use Rattle.refusals.specs.declared.Standing.the-variants.{Good, Refused}
+use Rattle.refusals.specs.Numbers.{long-word, work-room-size}
+use Rattle.refusals.specs.Limits.{most-pattern-records, most-word}
+use Rattle.refusals.specs.Laws.Order.{each-good, order-tells, not-refused, if-tells}
+use Rattle.cards.specs.Examine.{pattern-card}
 use Rattle.cards.specs.Laws.Examine.{card-number}
 use Rattle.store.specs.Room.{wrong-room}
-use Rattle.matching.specs.Refusals.{most-word, standing-of, match-standing}
+use Rattle.matching.specs.Refusals.{match-order, standing-of, match-standing}
 
--- A call that is not refused at once.
+-- A call that is not refused at once: the card is good, the word is short and the room is legal.
 pub record Unrefused (card word : List ℕ) (size : ℕ) : Type 0 where
   pub card-good : pattern-card card ≡ Good
   pub word-short : ltb most-word (length word) ≡ false
   pub room-legal : wrong-room size ≡ false
 
-pub unrefused : (card word : List ℕ) (size : ℕ) → match-standing card word size ≡ Good → Unrefused card word size
-unfolding standing-of
-unrefused card word size e =
-    let first = both-good (pattern-card card) (refused-if (ltb most-word (length word)) 4 then refused-if (wrong-room size) 5) e in
-    let second = both-good (refused-if (ltb most-word (length word)) 4) (refused-if (wrong-room size) 5) (first .1) in
-    record {
-      card-good = first .0;
-      word-short = not-refused (ltb most-word (length word)) 4 (second .0);
-      room-legal = not-refused (wrong-room size) 5 (second .1);
-    }
+-- The numbers of a refusal at once.
+abbrev pub ToFive : ℕ → Type 0
+ToFive number = number ≤ 5
 
-pub no-refusal : (card word : List ℕ) (size : ℕ) → Unrefused card word size → match-standing card word size ≡ Good
-unfolding standing-of
-no-refusal card word size u = rw (u .card-good, u .word-short, u .room-legal)
+module _ (card word : List ℕ) (size : ℕ) where
+  pub unrefused : match-standing card word size ≡ Good → Unrefused card word size
+  unfolding standing-of
+  unrefused e =
+      let good = each-good (match-order card (length word) size) e in
+      record {
+        card-good = good .0;
+        word-short = not-refused (ltb most-word (length word)) long-word (good .1 .0);
+        room-legal = not-refused (wrong-room size) work-room-size (good .1 .1 .0);
+      }
 
--- A call that is refused at once is refused by a number from 1 to 5.
-pub at-once-number : (card word : List ℕ) (size number : ℕ) → match-standing card word size ≡ Refused number → number ≤ 5
-unfolding standing-of pattern-card
-at-once-number card word size number e =
-    ⊎-elim (λ f. let n = card-number most-pattern-records card number f in omega arith)
-    (λ f.
-    ⊎-elim (λ g. let n = if-number (ltb most-word (length word)) 4 number g in omega arith)
-    (λ g. let n = if-number (wrong-room size) 5 number g in omega arith)
-    (then-number (refused-if (ltb most-word (length word)) 4) (refused-if (wrong-room size) 5) number f))
-    (then-number (pattern-card card) (refused-if (ltb most-word (length word)) 4 then refused-if (wrong-room size) 5) number e)
+  pub no-refusal : Unrefused card word size → match-standing card word size ≡ Good
+  unfolding standing-of
+  no-refusal u = rw (u .card-good, u .word-short, u .room-legal)
+
+  -- A call that is refused at once is refused by a number from 1 to 5.
+  pub at-once-number : (number : ℕ) → match-standing card word size ≡ Refused number → ToFive number
+  unfolding standing-of pattern-card
+  at-once-number =
+      order-tells ToFive (match-order card (length word) size) (
+        λ number e. let n = card-number most-pattern-records card number e in omega arith,
+        (if-tells ToFive (ltb most-word (length word)) long-word (omega arith), (if-tells ToFive (wrong-room size) work-room-size (omega arith), tt)),
+      )

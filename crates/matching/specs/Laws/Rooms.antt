@@ -1,5 +1,5 @@
--- Matching in a room: what the code answers of beginning, of following and of judging, with the room that it leaves, is what the next
--- step goes on from, since the store that stands in the room is good again.
+-- Matching in a room: what the code answers of following and of judging, with the room that it leaves, is what the next step goes on
+-- from, since the store that stands in the room is good again.
 use Prim.Native.Nat.{ℕ, suc, _+_, _-_, _<_, _≤_}
 use native.Mathlib.Numerals.{add-one}
 use native.Mathlib.Omega.{arith}
@@ -8,44 +8,26 @@ use mathlib.Core.List.{List, []}
 use mathlib.Core.Path.{_≡_, refl, sym, _∙_, ap, ap₂}
 use lib.ListN.{length, getD, drop, drop-of-length-le}
 use lib.Seq.{drop-cons}
+use Rattle.answers.specs.declared.Match.the-variants.{Yes, No, Refused}
+use Rattle.answers.specs.Matching.{yes, no, told}
 use Rattle.language.specs.Word.{Bytes}
-use Rattle.cards.specs.declared.record.Record.{Record}
-use Rattle.cards.specs.declared.examine.Standing.{Standing}
-use Rattle.cards.specs.declared.examine.Standing.the-variants.{Good, Refused}
-use Rattle.cards.specs.Record.{records, child, run-of}
+use Rattle.records.specs.declared.record.Record.{Record}
+use Rattle.records.specs.Record.{child}
 use Rattle.cards.specs.Mark.{marked}
-use Rattle.cards.specs.Examine.{pattern-card}
-use Rattle.store.specs.declared.entering.Entered.{Entered}
-use Rattle.store.specs.declared.entering.Entered.the-variants.{At as EnteredAt, Full as NotEntered}
-use Rattle.store.specs.Room.{store-in, places-of, laid, fresh-store}
-use Rattle.store.specs.Loading.{root, Loading, loaded, no-room, after-loading}
-use Rattle.store.specs.Told.{told-entering, Enters}
+use Rattle.store.specs.Room.{store-in, places-of, laid}
 use Rattle.store.specs.Good.{GoodStore}
 use Rattle.store.specs.Laws.Room.{laid-same, laid-laid}
 use Rattle.store.specs.Laws.Wall.{grows-length, Kept, kept-refl, kept-trans}
 use Rattle.store.specs.Laws.GoodRoom.{room-ready, length-store-in, length-after, places-after, store-after, good-after}
-use Rattle.store.specs.Laws.Loading.{LoadLaw, all-loaded, was-full}
-use Rattle.store.specs.Laws.LoadingRoom.{loading-in}
-use Rattle.store.specs.Laws.LegalRoom.{LegalRoom, legal-room}
-use Rattle.store.specs.Laws.Cards.{card-loaded}
-use Rattle.store.specs.Laws.FreshRoom.{loading-fresh, grown-good, load-fresh-law, lent-fresh, entered-fresh}
 use Rattle.derivative.specs.declared.Derived.{Derived}
 use Rattle.derivative.specs.declared.Derived.the-variants.{At, Stopped}
 use Rattle.derivative.specs.Derivative.{Deriving, derived, stopped, and-then, derive}
 use Rattle.derivative.specs.Told.{told-deriving, after-deriving, Comes}
 use Rattle.derivative.specs.Laws.Derivative.{derive-law}
 use Rattle.derivative.specs.Laws.Rooms.{Keeps, derives, stops, step-keeps, keeps-longer, not-both, Stands as Stood, stands, stopped-then, Next, in-store, next, store-then}
-use Rattle.matching.specs.declared.Match.{Match}
-use Rattle.matching.specs.declared.Match.the-variants.{Yes, No, Refused as RefusedMatch}
-use Rattle.matching.specs.declared.beginning.Begun.{Begun}
-use Rattle.matching.specs.declared.beginning.Begun.the-variants.{At as BegunAt, Full}
-use Rattle.matching.specs.Refusals.{standing-of}
-use Rattle.matching.specs.Fits.{yes, no, told, Outcome, follow, judged, follow-loaded, fits-in, fits-standing, fits-outcome}
-use Rattle.matching.specs.Promise.{Fits, Judges}
-use Rattle.matching.specs.Begin.{CanBegin, told-begun, Begins}
-use Rattle.matching.specs.Laws.Refusals.{Unrefused, unrefused}
+use Rattle.matching.specs.Fits.{follow, judged}
+use Rattle.matching.specs.Promise.{Judges}
 use Rattle.matching.specs.Laws.Follow.{left-of, follow-law, follow-visits}
-use Rattle.matching.specs.Laws.Fits.{fits-true}
 
 -- What following a word from a place of the store of a room comes to.
 abbrev pub following-in : List ℕ → ℕ → ℕ → List ℕ → ℕ → Deriving
@@ -229,10 +211,10 @@ module _ {room : List ℕ} {places place : ℕ} {word : List ℕ} {budget : ℕ}
         go (derived p s b) f l = absurd (not-both e f)
         go (stopped n s b) f l = let same : left ≡ b = cc in omega arith
 
-    pub said-refused : Judges room (judged budget whole) (RefusedMatch number taken (budget - left)) room₁
+    pub said-refused : Judges room (judged budget whole) (Refused number taken (budget - left)) room₁
     said-refused = go whole (w .comes)
       where
-        go : (d : Deriving) → Comes room d end room₁ → Judges room (judged budget d) (RefusedMatch number taken (budget - left)) room₁
+        go : (d : Deriving) → Comes room d end room₁ → Judges room (judged budget d) (Refused number taken (budget - left)) room₁
         go (derived p s b) k = absurd (not-both e (k .answers))
         go (stopped n s b) k =
             let a = k .answers in
@@ -240,176 +222,3 @@ module _ {room : List ℕ} {places place : ℕ} {word : List ℕ} {budget : ℕ}
             let j : taken ≡ length s = cc in
             let m : left ≡ b = cc in
             record { tells = rw (i, j, m); leaves = k .leaves }
-
--- Beginning: the card is entered into the fresh store, and what entering answers is told as it is.
-
-abbrev pub begun-of : Entered → Begun
-begun-of (EnteredAt place taken) = BegunAt place taken
-begun-of (NotEntered taken) = Full taken
-
-begun-told : (l : Loading) → begun-of (told-entering l) ≡ told-begun l
-begun-told (loaded places store) = refl
-begun-told (no-room store) = refl
-
--- The room of a call that can begin is legal, and so long enough for a fresh store.
-
-legal : {card room : List ℕ} → CanBegin card room → LegalRoom (length room)
-legal {room = room} can = legal-room (length room) (can .room-legal)
-
-pub enough : {card room : List ℕ} → CanBegin card room → 16 ≤ length room
-enough can = legal can .enough
-
--- A call that can begin, once a fresh store is laid in its room.
-pub record FreshCall (card room : List ℕ) (places : ℕ) (room₁ : List ℕ) : Type 0 where
-  pub cards : Bytes card
-  pub bytes : Bytes room
-  pub can : CanBegin card room
-  pub room-is : room₁ ≡ laid fresh-store room
-  pub two : places ≡ 2
-
-module _ {card room : List ℕ} {places : ℕ} {room₁ : List ℕ} (k : FreshCall card room places room₁) where
-  -- The card can be entered.
-  pub can-enter : GoodStore room₁ places × (pattern-card card ≡ Good)
-  can-enter = (lent-fresh room (k .bytes) (legal (k .can)) (k .room-is) (k .two), k .can .card-good)
-
-  -- What entering answers is what beginning tells.
-  pub begun-with : {entered : Entered} {room₂ : List ℕ} → Enters room₁ (loading-in room₁ places card) entered room₂
-      → {answer : Entered} → entered ≡ answer → Begins room (loading-fresh card room) (begun-of answer) room₂
-  begun-with e i =
-      let f = entered-fresh room (k .bytes) (legal (k .can)) (k .room-is) (k .two) card (k .cards) (k .can .card-good) e in
-      record { answers = ap begun-of (sym i ∙ f .answers) ∙ begun-told (loading-fresh card room); leaves = f .leaves }
-
--- The card was loaded: `place` is its root's, and `store` stands in the room.
-record BeginsAt (room : List ℕ) (l : Loading) (place taken : ℕ) (room₁ : List ℕ) : Type 0 where
-  places : List ℕ
-  store : List Record
-  is : l ≡ loaded places store
-  place-is : place ≡ root places
-  taken-is : taken ≡ length store
-  room-is : room₁ ≡ laid store room
-  kept : Kept (places-of room) fresh-store store
-  inside : root places < length store
-
-judged-store : (budget : ℕ) (d : Deriving) → judged budget d .store ≡ after-deriving d
-judged-store budget (derived place s left) = refl
-judged-store budget (stopped number s left) = refl
-
-module _ {room : List ℕ} {l : Loading} {place taken : ℕ} {room₁ : List ℕ} (n : BeginsAt room l place taken room₁) where
-  entered-good : Bytes room → LegalRoom (length room) → GoodStore room₁ taken
-  entered-good bytes legal = rw (n .room-is, n .taken-is) (grown-good room bytes legal (n .kept))
-
-  entered-inside : place < taken
-  entered-inside = let i = n .inside in omega (arith, n .place-is, n .taken-is)
-
-  module _ {word : List ℕ} (letters : Bytes word) (budget : ℕ) where
-    abbrev onward-from : Deriving
-    onward-from = follow (places-of room) word (root (n .places)) (n .store) budget
-
-    followed-from : following-in room₁ taken place word budget ≡ onward-from
-    followed-from =
-        let cap : places-of room₁ ≡ places-of room = ap places-of (n .room-is) ∙ places-after room (n .kept) in
-        let stood : store-in room₁ taken ≡ n .store = ap₂ store-in (n .room-is) (n .taken-is) ∙ store-after room (n .kept) in
-        rw (cap, stood, n .place-is)
-
-    longer-from : length (n .store) ≤ length (judged budget onward-from .store)
-    longer-from =
-        rw (judged-store budget onward-from)
-        (keeps-longer (step-keeps (follow-law letters (places-of room) (root (n .places)) (n .store) budget (n .inside) (n .kept .ready))))
-
-    -- What is judged of the store in the room is judged of the card.
-    entered-judged : {answer : Match} {room₂ : List ℕ} → Judges room₁ (judged budget (following-in room₁ taken place word budget)) answer room₂
-        → Judges room (judged budget onward-from) answer room₂
-    entered-judged j =
-        let k = rw followed-from at j in
-        record {
-          tells = k .tells;
-          leaves =
-              k .leaves
-              ∙ ap (laid (judged budget onward-from .store)) (n .room-is)
-              ∙ laid-laid (n .store) (judged budget onward-from .store) room longer-from;
-        }
-
--- What the code told of beginning is one thing.
-not-both-begun : {begun : Begun} {place taken stood : ℕ} → begun ≡ BegunAt place taken → begun ≡ Full stood → ⊥
-not-both-begun e f = let z : _≡_ {A = ℕ} 0 1 = cc in omega arith
-
--- What was lent to a call of `fits` are bytes, and `found` is the first refusal that needs no work.
-pub record Lent (card word room : List ℕ) (budget : ℕ) (found : Standing) : Type 0 where
-  pub cards : Bytes card
-  pub letters : Bytes word
-  pub bytes : Bytes room
-  pub standing : found ≡ standing-of card (length word) (length room)
-
--- The call, by its parts.
-module _ {card word room : List ℕ} {budget : ℕ} {found : Standing} (k : Lent card word room budget found) where
-  abbrev outcome : Outcome
-  outcome = fits-outcome card word (length room) budget
-
-  -- An answer that tells the outcome is true.
-  promised : {o : Outcome} → outcome ≡ o → {answer : Match} {room′ : List ℕ} → Judges room o answer room′ → Fits card word room budget answer room′
-  promised e j =
-      let t = j .tells ∙ ap (λ (o : Outcome). o .tells) (sym e) in
-      record {
-        tells = t;
-        leaves = j .leaves ∙ ap (λ (o : Outcome). laid (o .store) room) (sym e);
-        means = rw t (fits-true card word (k .cards) (k .letters) (length room) budget);
-      }
-
-  -- A call that is refused at once leaves the room as it is.
-  pub refused-at-once : {number : ℕ} → found ≡ Refused number → Fits card word room budget (RefusedMatch number 0 0) room
-  unfolding fits-outcome run-of
-  refused-at-once e =
-      promised (ap (λ (t : Standing). fits-standing t card word (length room) budget) (sym (k .standing) ∙ e)) (record { tells = refl; leaves = refl })
-
-  -- A call that is not begins.
-  module _ (e : found ≡ Good) where
-    abbrev begins : Loading
-    begins = loading-fresh card room
-
-    not-refused : Unrefused card word (length room)
-    not-refused = unrefused card word (length room) (sym (k .standing) ∙ e)
-
-    outcome-is : outcome ≡ follow-loaded (places-of room) word budget begins
-    unfolding fits-outcome fits-in
-    outcome-is = ap (λ (t : Standing). fits-standing t card word (length room) budget) (sym (k .standing) ∙ e)
-
-    pub can-begin : CanBegin card room
-    can-begin = record { card-good = not-refused .card-good; room-legal = not-refused .room-legal }
-
-    module _ {begun : Begun} {room₁ : List ℕ} (b : Begins room begins begun room₁) where
-      pub full-in-loading : {taken : ℕ} → begun ≡ Full taken → Fits card word room budget (RefusedMatch 7 taken 0) room₁
-      full-in-loading {taken} f = go begins refl (b .answers) (b .leaves)
-        where
-          go : (l : Loading) → begins ≡ l → begun ≡ told-begun l → room₁ ≡ laid (after-loading l) room
-              → Fits card word room budget (RefusedMatch 7 taken 0) room₁
-          go (loaded places store) i a w = absurd (not-both-begun a f)
-          go (no-room store) i a w =
-              let stood : taken ≡ length store = cc in
-              promised (outcome-is ∙ ap (follow-loaded (places-of room) word budget) i) (record { tells = rw stood; leaves = w })
-
-      module _ {place taken : ℕ} (f : begun ≡ BegunAt place taken) where
-        entered : BeginsAt room begins place taken room₁
-        entered = go (load-fresh-law (legal can-begin) card (k .cards) (not-refused .card-good)) (b .answers) (b .leaves)
-          where
-            go : {l : Loading} → LoadLaw (places-of room) (records card) fresh-store [] (records card) l
-                → begun ≡ told-begun l → room₁ ≡ laid (after-loading l) room → BeginsAt room l place taken room₁
-            go (all-loaded {places′ = places} {store′ = store} h) a w =
-                record {
-                  places = places;
-                  store = store;
-                  is = refl;
-                  place-is = cc;
-                  taken-is = cc;
-                  room-is = w;
-                  kept = h .kept;
-                  inside = card-loaded card (not-refused .card-good) h .inside;
-                }
-            go (was-full h) a w = absurd (not-both-begun f a)
-
-        pub begun-well : GoodStore room₁ taken × (place < taken)
-        begun-well = (entered-good entered (k .bytes) (legal can-begin), entered-inside entered)
-
-        pub judged-begun : {answer : Match} {room₂ : List ℕ} → Judges room₁ (judged budget (following-in room₁ taken place word budget)) answer room₂
-            → Fits card word room budget answer room₂
-        judged-begun j =
-            promised (outcome-is ∙ ap (follow-loaded (places-of room) word budget) (entered .is)) (entered-judged entered (k .letters) budget j)

@@ -5,7 +5,8 @@ use mathlib.Core.Bool.{Bool, true, false, not, _||_, false≢true}
 use mathlib.Core.Path.{_≡_, refl, sym}
 use lib.Dec.{eqb, ltb}
 use borrow.Author.Tests.{eqb-true, eqb-false, ltb-false, eq-eqb, ne-eqb, le-ltb}
-use Rattle.pairs.specs.Room.{most-pair-room, wrong-pair-room}
+use Rattle.pairs.specs.Room.{wrong-pair-room}
+use Rattle.refusals.specs.Limits.{most-pair-room}
 
 -- A legal pair room.
 pub record LegalPairRoom (size : ℕ) : Type 0 where

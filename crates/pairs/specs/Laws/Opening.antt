@@ -9,19 +9,19 @@ use lib.ListN.{length}
 use Rattle.language.specs.Word.{Bytes}
 use Rattle.language.specs.Language.{language, Equal}
 use Rattle.language.specs.Laws.Equality.{equal-trans}
-use Rattle.cards.specs.declared.record.Record.{Record}
-use Rattle.cards.specs.declared.examine.Standing.the-variants.{Good}
-use Rattle.cards.specs.Record.{records}
+use Rattle.records.specs.declared.record.Record.{Record}
+use Rattle.refusals.specs.declared.Standing.the-variants.{Good}
+use Rattle.records.specs.Record.{records}
 use Rattle.cards.specs.Examine.{pattern-card}
 use Rattle.cards.specs.Meaning.{card-pattern}
 use Rattle.store.specs.Room.{fresh-store, wrong-room}
-use Rattle.store.specs.Loading.{Loading, root}
+use Rattle.loading.specs.Loading.{Loading, root}
 use Rattle.store.specs.Laws.Wall.{grows-length, grows-language, Kept, kept-trans, Filled}
 use Rattle.store.specs.Laws.Languages.{language-at}
 use Rattle.store.specs.Laws.LegalRoom.{legal-room}
-use Rattle.store.specs.Laws.FreshRoom.{fresh-is-ready}
-use Rattle.store.specs.Laws.Loading.{LoadLaw, all-loaded, was-full, load-law}
-use Rattle.store.specs.Laws.Cards.{good-card, CardLoaded, card-loaded}
+use Rattle.loading.specs.Laws.FreshRoom.{fresh-is-ready}
+use Rattle.loading.specs.Laws.Loading.{LoadLaw, all-loaded, was-full, load-law}
+use Rattle.loading.specs.Laws.Cards.{good-card, CardLoaded, card-loaded}
 use Rattle.pairs.specs.Opening.{Opening, opened, unopened, right-opened, left-opened, open-both}
 
 -- Both cards are loaded: x and y are their roots' places.

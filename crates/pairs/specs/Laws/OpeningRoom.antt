@@ -6,27 +6,28 @@ use mathlib.Core.List.{List, []}
 use mathlib.Core.Path.{_≡_, refl, _∙_, ap, ap₂}
 use lib.ListN.{length}
 use Rattle.language.specs.Word.{Bytes}
-use Rattle.cards.specs.declared.record.Record.{Record}
-use Rattle.cards.specs.declared.examine.Standing.the-variants.{Good}
-use Rattle.cards.specs.Record.{records}
+use Rattle.records.specs.declared.record.Record.{Record}
+use Rattle.refusals.specs.declared.Standing.the-variants.{Good}
+use Rattle.records.specs.Record.{records}
 use Rattle.cards.specs.Examine.{pattern-card}
-use Rattle.store.specs.declared.entering.Entered.{Entered}
-use Rattle.store.specs.declared.entering.Entered.the-variants.{At, Full}
-use Rattle.store.specs.Room.{store-in, places-of, laid, fresh-store, least-room}
-use Rattle.store.specs.Loading.{Loading, loaded, no-room, load, root}
-use Rattle.store.specs.Told.{Enters}
+use Rattle.loading.specs.declared.entering.Entered.{Entered}
+use Rattle.loading.specs.declared.entering.Entered.the-variants.{At, Full}
+use Rattle.store.specs.Room.{store-in, places-of, laid, fresh-store}
+use Rattle.refusals.specs.Limits.{least-room}
+use Rattle.loading.specs.Loading.{Loading, loaded, no-room, load, root}
+use Rattle.loading.specs.Told.{Enters}
 use Rattle.store.specs.Good.{GoodStore}
 use Rattle.store.specs.Laws.Room.{laid-laid, store-of-laid}
 use Rattle.store.specs.Laws.Wall.{grows-length, Kept}
 use Rattle.store.specs.Laws.GoodRoom.{places-after, store-after}
 use Rattle.store.specs.Laws.LegalRoom.{LegalRoom, legal-room}
-use Rattle.store.specs.Laws.Loading.{LoadLaw, all-loaded, was-full, load-law}
-use Rattle.store.specs.Laws.Cards.{good-card}
+use Rattle.loading.specs.Laws.Loading.{LoadLaw, all-loaded, was-full, load-law}
+use Rattle.loading.specs.Laws.Cards.{good-card}
 use Rattle.pairs.specs.declared.opening.Opened.{Opened}
 use Rattle.pairs.specs.declared.opening.Opened.the-variants.{At as OpenedAt, Full as NotOpened}
 use Rattle.pairs.specs.Opening.{Opening, right-opened, left-opened, open-both, after-opening}
 use Rattle.pairs.specs.Told.{CanOpen, Opens}
-use Rattle.store.specs.Laws.FreshRoom.{length-fresh, fresh-in, fresh-is-ready, over-fresh, grown-good}
+use Rattle.loading.specs.Laws.FreshRoom.{length-fresh, fresh-in, fresh-is-ready, over-fresh, grown-good}
 
 -- What the code told of entering a card is one thing.
 not-both : {answer : Entered} {place taken stood : ℕ} → answer ≡ At place taken → answer ≡ Full stood → ⊥

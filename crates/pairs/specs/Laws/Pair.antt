@@ -1,19 +1,17 @@
 -- Pairs and their bytes: a pair laid down and read back is the same pair, the pairs of a run stand at 8 bytes each, and a pair whose
 -- fields fit their bytes has bytes.
-use Prim.Native.Nat.{ℕ, zero, suc, _+_, _*_, _/_, _%_, _<_}
+use Prim.Native.Nat.{ℕ, _*_, _<_}
 use native.Mathlib.Omega.{arith}
-use mathlib.Core.List.{List, [], _∷_, _++_}
-use mathlib.Core.Path.{_≡_, refl, _∙_, ap, ap₂}
-use lib.ListN.{length, drop}
-use lib.Seq.{drop-drop}
+use mathlib.Core.List.{List, _++_}
+use mathlib.Core.Path.{_≡_, refl}
+use lib.ListN.{length}
 use Rattle.language.specs.Word.{none, one, Bytes}
-use Rattle.cards.specs.Laws.Record.{byte-at}
+pub use Rattle.runs.specs.Laws.Bytes.{two-apart as places-one}
+use Rattle.runs.specs.Laws.Bytes.{two-bytes, low-is-byte, high-is-byte, byte-at}
+use Rattle.runs.specs.Laws.Runs.{Item}
+use Rattle.runs.specs.Laws.Runs as runs
 use Rattle.pairs.specs.declared.pair.Pair.{Pair}
-use Rattle.pairs.specs.Pair.{pair-of, bytes-of-pair, pair-record, first-pairs, run-of-pairs, pair-at}
-
--- Two bytes of a number, low byte first.
-two-bytes : (n : ℕ) → n % 256 + 256 * (n / 256) ≡ n
-two-bytes n = omega arith
+use Rattle.pairs.specs.Pair.{pair-of, bytes-of-pair, pair-record, first-pairs, run-of-pairs, no-pair, pair-at}
 
 -- A pair laid down and read back is the same pair, whatever stands behind it.
 pub read-pair-back : (p : Pair) (rest : List ℕ) → pair-of (bytes-of-pair p ++ rest) ≡ p
@@ -24,41 +22,6 @@ read-pair-back p rest =
       origin = two-bytes (p .origin) i;
       letter = p .letter;
     }
-
--- A run of pairs is 8 bytes for each.
-pub length-pair-run : (table : List Pair) → length (run-of-pairs table) ≡ 8 * length table
-unfolding run-of-pairs
-length-pair-run [] = refl
-length-pair-run (p ∷ table) = let ih = length-pair-run table in omega arith
-
--- The run of two tables, one behind the other.
-pub pair-run-append : (t u : List Pair) → run-of-pairs (t ++ u) ≡ run-of-pairs t ++ run-of-pairs u
-unfolding run-of-pairs
-pair-run-append [] u = refl
-pair-run-append (p ∷ t) u = ap (λ (s : List ℕ). bytes-of-pair p ++ s) (pair-run-append t u)
-
--- The pairs of a run, whatever stands behind it.
-pub first-of-pair-run : (table : List Pair) (rest : List ℕ) → first-pairs (length table) (run-of-pairs table ++ rest) ≡ table
-unfolding first-pairs run-of-pairs
-first-of-pair-run [] rest = refl
-first-of-pair-run (p ∷ table) rest = ap₂ _∷_ (read-pair-back p (run-of-pairs table ++ rest)) (first-of-pair-run table rest)
-
--- The pair numbered `at` of a table is the pair at its number in the run.
-
-pub length-first-pairs : (n : ℕ) (s : List ℕ) → length (first-pairs n s) ≡ n
-unfolding first-pairs
-length-first-pairs zero s = refl
-length-first-pairs (suc n) s = ap suc (length-first-pairs n (drop 8 s))
-
-pub first-pair-at : (n : ℕ) (s : List ℕ) (at : ℕ) → at < n → pair-at (first-pairs n s) at ≡ pair-record s at
-unfolding first-pairs
-first-pair-at zero s at l = absurd (omega arith)
-first-pair-at (suc n) s zero l = refl
-first-pair-at (suc n) s (suc at) l =
-    let e : 8 + 8 * at ≡ 8 * suc at = omega arith in
-    first-pair-at n (drop 8 s) at (omega arith)
-    ∙ ap pair-of (drop-drop (8 * at) 8 s)
-    ∙ ap (λ (k : ℕ). pair-of (drop k s)) e
 
 -- A pair whose fields fit their bytes.
 pub record FittingPair (p : Pair) : Type 0 where
@@ -78,23 +41,34 @@ fitting-pair-of b =
       letter = byte-at b 6;
     }
 
-pub bytes-fitting-pair : (p : Pair) → FittingPair p → Bytes (bytes-of-pair p)
+bytes-fitting-pair : (p : Pair) → FittingPair p → Bytes (bytes-of-pair p)
 bytes-fitting-pair p f =
-    one (low (p .left))
-    (one (high (p .left) (f .left))
-    (one (low (p .right))
-    (one (high (p .right) (f .right))
-    (one (low (p .origin)) (one (high (p .origin) (f .origin)) (one (f .letter) (one nil none)))))))
-  where
-    low : (n : ℕ) → n % 256 < 256
-    low n = omega arith
+    one (low-is-byte (p .left))
+    (one (high-is-byte (p .left) (f .left))
+    (one (low-is-byte (p .right))
+    (one (high-is-byte (p .right) (f .right))
+    (one (low-is-byte (p .origin)) (one (high-is-byte (p .origin) (f .origin)) (one (f .letter) (one (low-is-byte 0) none)))))))
 
-    high : (n : ℕ) → n < 65536 → n / 256 < 256
-    high n l = omega arith
+-- So pairs are items of 8 bytes, and what runs promise holds of runs of pairs.
+pub pair-item : Item 8 pair-of bytes-of-pair FittingPair
+pair-item = record { some = omega arith; long = λ p. refl; back = read-pair-back; bytes = bytes-fitting-pair }
 
-    nil : 0 < 256
-    nil = omega arith
+-- A run of pairs is 8 bytes for each.
+pub length-pair-run : (table : List Pair) → length (run-of-pairs table) ≡ 8 * length table
+unfolding run-of-pairs
+length-pair-run = runs.length-run pair-item
 
--- Two places that fit are told apart by their number.
-pub places-one : (a b x y : ℕ) → a < 65536 → x < 65536 → a + 65536 * b ≡ x + 65536 * y → (a ≡ x) × (b ≡ y)
-places-one a b x y l m e = (omega arith, omega arith)
+-- The pairs of a run, whatever stands behind it.
+pub first-of-pair-run : (table : List Pair) (rest : List ℕ) → first-pairs (length table) (run-of-pairs table ++ rest) ≡ table
+unfolding first-pairs run-of-pairs
+first-of-pair-run = runs.first-of-run pair-item
+
+-- The pair numbered `at` of a table is the pair at its number in the run.
+
+pub length-first-pairs : (n : ℕ) (s : List ℕ) → length (first-pairs n s) ≡ n
+unfolding first-pairs
+length-first-pairs = runs.length-first 8 pair-of
+
+pub first-pair-at : (n : ℕ) (s : List ℕ) (at : ℕ) → at < n → pair-at (first-pairs n s) at ≡ pair-record s at
+unfolding first-pairs
+first-pair-at = runs.first-at 8 pair-of no-pair

@@ -13,11 +13,12 @@ use Rattle.language.specs.Word.{Word, Bytes, IsByte, Listed}
 use Rattle.language.specs.Language.{language}
 use Rattle.language.specs.Laws.Atoms.{atoms}
 use Rattle.language.specs.Laws.StandIn.{Represented, represented}
-use Rattle.cards.specs.Record.{records}
+use Rattle.records.specs.Record.{records}
 use Rattle.cards.specs.Meaning.{card-pattern}
 use Rattle.cards.specs.Letters.{mentions, those-below}
 use Rattle.cards.specs.Laws.Letters.{those-below-sound, those-below-complete, atoms-mentioned, mentioned-byte}
-use Rattle.pairs.specs.Tried.{most-letters, mentioned, tried}
+use Rattle.pairs.specs.Tried.{mentioned, tried}
+use Rattle.refusals.specs.Limits.{most-letters}
 
 -- One number more adds itself where the test holds of it, and else nothing; so there are no more than the numbers looked at.
 

@@ -10,8 +10,8 @@ use lib.Dec.{eqb}
 use borrow.Author.Tests.{eqb-true, eq-eqb}
 use lib.ListN.{length}
 use Rattle.language.specs.Laws.Tests.{and-left, and-right}
-use Rattle.cards.specs.declared.record.Record.{Record}
-use Rattle.cards.specs.Record.{child}
+use Rattle.records.specs.declared.record.Record.{Record}
+use Rattle.records.specs.Record.{child}
 use Rattle.store.specs.declared.finding.Found.{Found}
 use Rattle.store.specs.declared.finding.Found.the-variants.{At, Absent}
 use Rattle.store.specs.Making.{identical, find-from, find}

@@ -7,29 +7,20 @@ use mathlib.Core.Bool.{Bool, true, false}
 use mathlib.Core.Path.{_≡_, ap}
 use lib.ListN.{length}
 use Rattle.language.specs.Laws.Derivative.{nullable}
-use Rattle.cards.specs.declared.record.Record.{Record}
-use Rattle.cards.specs.Record.{child}
+use Rattle.records.specs.declared.record.Record.{Record}
+use Rattle.records.specs.Record.{child}
 use Rattle.cards.specs.Mark.{bit}
 use Rattle.cards.specs.Meaning.{patterns, numbered}
-use Rattle.cards.specs.Standing.{Line}
-use Rattle.cards.specs.Laws.Record.{Fitting, length-first}
+use Rattle.cards.specs.Laws.Line.{lower-left, lower-right, line-kind}
+use Rattle.records.specs.Laws.Record.{Fitting, length-first}
 use Rattle.store.specs.Room.{store-in, places-of, laid}
 use Rattle.store.specs.Good.{Good, GoodStore}
 use Rattle.store.specs.Laws.Room.{store-of-laid, length-laid, bytes-laid}
 use Rattle.store.specs.Laws.Wall.{Ready, Kept}
-use Rattle.store.specs.Laws.Members.{lower-left, lower-right}
 
 bit-small : (b : Bool) → bit b < 256
 bit-small true = omega arith
 bit-small false = omega arith
-
-line-kind : {at : ℕ} {r : Record} → Line at r → r .kind < 256
-line-kind (Line.nothing k _ _ _) = omega arith
-line-kind (Line.empty-word k _ _ _) = omega arith
-line-kind (Line.letter k _ _) = omega arith
-line-kind (Line.choice k _ _ _) = omega arith
-line-kind (Line.sequence k _ _ _) = omega arith
-line-kind (Line.repeat k _ _ _) = omega arith
 
 -- The records of a good store fit their bytes.
 pub good-fits : {store : List Record} → Good store → (at : ℕ) → at < length store → Fitting (child store at)

@@ -6,26 +6,29 @@ use mathlib.Core.Bool.{true}
 use mathlib.Core.List.{List, [], _∷_, _++_}
 use mathlib.Core.Logic.{⊎-elim}
 use mathlib.Core.Path.{_≡_, refl, sym, _∙_, ap, subst}
+use borrow.Author.Tests.{eq-eqb}
 use lib.ListN.{length, take, length-append}
 use lib.Seq.{getD-append-seam, getD-at, take-append-le, take-all, take-append-seam}
 use Rattle.language.specs.Laws.Derivative.{nullable}
-use Rattle.cards.specs.declared.record.Record.{Record}
-use Rattle.cards.specs.Record.{child}
-use Rattle.cards.specs.Kind.{kind-of}
+use Rattle.records.specs.declared.record.Record.{Record}
+use Rattle.records.specs.Record.{child}
+use Rattle.records.specs.Kind.{kind-of}
 use Rattle.cards.specs.Mark.{bit}
 use Rattle.cards.specs.Meaning.{record-pattern, patterns, numbered}
 use Rattle.cards.specs.Standing.{Line, Obeys}
+use Rattle.cards.specs.Laws.Line.{lower-left, lower-right}
 use Rattle.cards.specs.Laws.Meaning.{patterns-more, length-patterns, pattern-kept}
 use Rattle.cards.specs.Laws.Examine.{has-empty-right}
 use Rattle.store.specs.declared.finding.Found.the-variants.{Absent}
-use Rattle.store.specs.Making.{placed, find, intern, new-record, is-choice, choice}
-use Rattle.store.specs.Good.{Good, Set, IsSet, most-places, make-again}
+use Rattle.store.specs.Making.{placed, find, intern, new-record}
+use Rattle.store.specs.Good.{is-set, Good, Set, IsSet, make-again}
+use Rattle.refusals.specs.Limits.{most-places}
 use Rattle.store.specs.Laws.Finding.{absent-nowhere}
 use Rattle.store.specs.Laws.Wall.{Grows}
-use Rattle.store.specs.Laws.Members.{lower-left, lower-right, child-kept, members-kept, set-kept}
+use Rattle.store.specs.Laws.Members.{child-kept, members-kept, set-kept}
 use Rattle.store.specs.Laws.Interning.{intern-found, grows-found, fresh-kept, own-record, own-found, marked-nullable}
-use Rattle.store.specs.Laws.Rules.{make-given, make-kept, make-merged, Says, gives, stays, merges, says, kind-choice}
-use Rattle.store.specs.Laws.Choosing.{choice-settled}
+use Rattle.store.specs.Laws.Rules.{make-given, make-kept, make-merged, Says, gives, stays, merges, says}
+use Rattle.store.specs.Laws.Choosing.{both-settled}
 
 -- A record of a good store is settled in a grown store too.
 settled-again : {store : List Record} → Good store → {grown : List Record} → Grows store grown → (at : ℕ) → at < length store → (room : ℕ)
@@ -45,7 +48,7 @@ settled-again {store} g {grown} k at l room = go (says (kind-of (r .kind)) (r .l
       where
         same : placed place store ≡ placed at store → place ≡ at
         same h = cc
-    go (stays e) =
+    go (stays s e) =
         make-kept room grown (r .kind) (r .letter) (r .left) (r .right) e
         ∙ ap (intern room grown)
         (fresh-kept k (r .kind) (r .letter) (r .left) (r .right)
@@ -53,16 +56,17 @@ settled-again {store} g {grown} k at l room = go (says (kind-of (r .kind)) (r .l
         (⊎-elim (λ m. omega arith) (λ m. omega arith) (lower-right line))
         ∙ own-record g at l)
         ∙ intern-found room grown r (grows-found k r at (own-found g at l))
-    go (merges e) =
-        make-merged room grown (r .kind) (r .letter) (r .left) (r .right) (rw e) ∙ choice-settled g k room at l (kind-choice line e)
+    go (merges s e) =
+        make-merged room grown (r .kind) (r .letter) (r .left) (r .right) e
+        ∙ both-settled (record { is = s }) g k room at l (eq-eqb (r .kind) (r .kind) refl)
 
 -- The pattern of a new record is over the patterns of the records before it.
 pub pattern-new : (store : List Record) (r : Record) → numbered (patterns (store ++ r ∷ [])) (length store) ≡ record-pattern (patterns store) r
 pattern-new store r =
     rw (patterns-more store r) (getD-at (patterns store) (record-pattern (patterns store) r) [] _ (length store) (length-patterns store))
 
--- A good store with one new record is good: a record that obeys the table, is absent, is a set where it is a choice, is settled there and
--- is made in its turn.
+-- A good store with one new record is good: a record that obeys the table, is absent, is a set where its kind asks for one, is settled there
+-- and is made in its turn.
 module _ (store : List Record) (g : Good store) (kind letter left right : ℕ) (line : Line (length store) (new-record store kind letter left right))
     (byte : letter < 256) (free : length store < most-places) (absent : find store (new-record store kind letter left right) ≡ Absent) where
   abbrev new : Record
@@ -118,17 +122,19 @@ module _ (store : List Record) (g : Good store) (kind letter left right : ℕ) (
       go (no a) (no b) = end i l a ∙ sym (end j m b)
 
   -- A set of the store is one in the grown store.
-  set-more : (r : Record) → r .right < length store → IsSet store r → IsSet grown r
+  set-more : (r : Record) → r .right < length store → IsSet (r .kind) store r → IsSet (r .kind) grown r
   set-more r l s =
       record {
-        set = subst (λ (ms : List ℕ). Set grown 0 (r .left ∷ ms)) (sym (members-kept g grows (r .right) l)) (set-kept grows (s .set));
+        set =
+            subst (λ (ms : List ℕ). Set (r .kind) grown 0 (r .left ∷ ms)) (sym (members-kept (r .kind) g grows (r .right) l))
+            (set-kept grows (s .set));
         more = s .more;
       }
 
   cut : (at : ℕ) → at ≤ length store → take at grown ≡ take at store
   cut at l = take-append-le at store (new ∷ []) l
 
-  pub good-more : (is-choice new ≡ true → IsSet store new)
+  pub good-more : (is-set (kind-of kind) ≡ true → IsSet kind store new)
       → ((room : ℕ) → make-again room grown new ≡ placed (length store) grown)
       → ((room : ℕ) → length store < room → make-again room store new ≡ placed (length store) grown)
       → Good grown
@@ -152,7 +158,7 @@ module _ (store : List Record) (g : Good store) (kind letter left right : ℕ) (
             (rw last new-mark);
         once = new-once;
         sets =
-            all (λ (at : ℕ). is-choice (child grown at) ≡ true → IsSet grown (child grown at))
+            all (λ (at : ℕ). is-set (kind-of (child grown at .kind)) ≡ true → IsSet (child grown at .kind) grown (child grown at))
             (λ at l. rw (kept at l) (λ e. set-more (child store at) (right-inside (g .obeys at l .line) (omega arith)) (g .sets at l e)))
             (rw last (λ e. set-more new (right-inside line (omega arith)) (new-set e)));
         settled =

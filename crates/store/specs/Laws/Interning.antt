@@ -7,8 +7,8 @@ use mathlib.Core.Path.{_≡_, refl, sym, _∙_, ap}
 use borrow.Author.Tests.{lt-ltb, le-ltb}
 use lib.ListN.{length}
 use Rattle.language.specs.Laws.Derivative.{nullable}
-use Rattle.cards.specs.declared.record.Record.{Record}
-use Rattle.cards.specs.Record.{child}
+use Rattle.records.specs.declared.record.Record.{Record}
+use Rattle.records.specs.Record.{child}
 use Rattle.cards.specs.Mark.{bit, marked}
 use Rattle.cards.specs.Meaning.{patterns, numbered}
 use Rattle.cards.specs.Laws.Meaning.{pattern-of-record}

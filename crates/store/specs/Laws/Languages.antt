@@ -1,13 +1,15 @@
 -- The language at a place of a store, and each kind's operator over languages.
 use Prim.Native.Nat.{ℕ, _<_}
+use mathlib.Core.Bool.{true}
 use mathlib.Core.List.{List, _++_}
-use mathlib.Core.Path.{_≡_, subst}
+use mathlib.Core.Path.{_≡_, refl, subst}
 use lib.ListN.{length}
 use Rattle.language.specs.Language.{Language, Union, Concatenation, Star, Pattern, language, Equal, nothing, empty-word, letter}
 use Rattle.language.specs.Laws.Equality.{equal-refl, union-equal, concatenation-equal, star-equal}
-use Rattle.cards.specs.declared.kind.Kind.{Kind}
-use Rattle.cards.specs.declared.kind.Kind.the-variants.{Nothing, EmptyWord, Letter, Choice, Sequence, Repeat, Unknown}
-use Rattle.cards.specs.declared.record.Record.{Record}
+use Rattle.records.specs.declared.kind.Kind.{Kind}
+use Rattle.records.specs.declared.kind.Kind.the-variants.{Nothing, EmptyWord, Letter, Choice, Sequence, Repeat, Unknown}
+use Rattle.records.specs.declared.record.Record.{Record}
+use Rattle.records.specs.Kind.{columns}
 use Rattle.cards.specs.Meaning.{operator, patterns, numbered}
 use Rattle.cards.specs.Laws.Meaning.{pattern-kept}
 
@@ -34,14 +36,15 @@ language-of-operator Sequence c p q = equal-refl _
 language-of-operator Repeat c p q = equal-refl _
 language-of-operator Unknown c p q = equal-refl _
 
--- An operator over equal languages gives equal languages.
-pub operator-equal : (k : Kind) (c : ℕ) {A A′ B B′ : Language} → Equal A A′ → Equal B B′ → Equal (operator-over k c A B) (operator-over k c A′ B′)
+-- An operator goes by the children that its kind has: over equal languages of these it gives equal languages.
+pub operator-equal : (k : Kind) (c : ℕ) {A A′ B B′ : Language} → (columns k .left ≡ true → Equal A A′) → (columns k .right ≡ true → Equal B B′)
+    → Equal (operator-over k c A B) (operator-over k c A′ B′)
 operator-equal Nothing c e f = equal-refl _
 operator-equal EmptyWord c e f = equal-refl _
 operator-equal Letter c e f = equal-refl _
-operator-equal Choice c e f = union-equal e f
-operator-equal Sequence c e f = concatenation-equal e f
-operator-equal Repeat c e f = star-equal e
+operator-equal Choice c e f = union-equal (e refl) (f refl)
+operator-equal Sequence c e f = concatenation-equal (e refl) (f refl)
+operator-equal Repeat c e f = star-equal (e refl)
 operator-equal Unknown c e f = equal-refl _
 
 -- Equal patterns have equal languages.

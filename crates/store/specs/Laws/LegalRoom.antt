@@ -4,7 +4,8 @@ use mathlib.Core.Bool.{Bool, true, false, not, _||_, false≢true}
 use mathlib.Core.Path.{_≡_, refl, sym}
 use lib.Dec.{eqb, ltb}
 use borrow.Author.Tests.{eqb-true, ltb-false}
-use Rattle.store.specs.Room.{least-room, most-room, wrong-room}
+use Rattle.store.specs.Room.{wrong-room}
+use Rattle.refusals.specs.Limits.{least-room, most-room}
 
 -- A legal room.
 pub record LegalRoom (size : ℕ) : Type 0 where

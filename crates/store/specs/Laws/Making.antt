@@ -2,7 +2,7 @@
 -- with no free place, and does the same again in any store grown from there.
 use Prim.Native.Nat.{ℕ, suc, _<_}
 use native.Mathlib.Omega.{arith}
-use mathlib.Core.Bool.{Bool, true, false, _||_, cond}
+use mathlib.Core.Bool.{Bool, true, false, _||_, cond, false≢true}
 use mathlib.Core.List.{List, [], _∷_, _++_}
 use mathlib.Core.Logic.{⊎-elim}
 use mathlib.Core.Path.{_≡_, refl, sym, _∙_, ap, subst}
@@ -11,27 +11,27 @@ use borrow.Author.Tests.{eqb-true}
 use lib.ListN.{length, length-append}
 use Rattle.language.specs.Language.{Language, Concatenation, language, Equal, nothing as no-pattern, empty-word as empty-pattern}
 use Rattle.language.specs.Laws.Equality.{equal-refl, equal-sym, equal-trans, concatenation-equal, sequence-of-nothing, sequence-with-nothing, sequence-of-empty, sequence-with-empty}
-use Rattle.cards.specs.declared.kind.Kind.{Kind}
-use Rattle.cards.specs.declared.kind.Kind.the-variants.{Nothing, EmptyWord, Letter, Choice, Sequence, Repeat, Unknown}
-use Rattle.cards.specs.declared.record.Record.{Record}
-use Rattle.cards.specs.Kind.{kind-of}
+use Rattle.records.specs.declared.kind.Kind.{Kind}
+use Rattle.records.specs.declared.kind.Kind.the-variants.{Nothing, EmptyWord, Letter, Choice, Sequence, Repeat, Unknown}
+use Rattle.records.specs.declared.record.Record.{Record}
+use Rattle.records.specs.Kind.{kind-of}
+use Rattle.cards.specs.Laws.Line.{lower-left, lower-right}
 use Rattle.store.specs.declared.finding.Found.the-variants.{At, Absent}
 use Rattle.store.specs.declared.making.Ruled.the-variants.{Gives, Stays, Merges}
-use Rattle.store.specs.Making.{Making, find, intern, sequence-rule, rule, new-record, choice-kind, members, merged, built, make}
-use Rattle.store.specs.Good.{Good}
+use Rattle.store.specs.Making.{Making, find, intern, nothing-place, empty-word-place, sequence-rule, rule, new-record, members, merged, built, make}
+use Rattle.store.specs.Good.{is-set, SetKind, Good}
 use Rattle.store.specs.Laws.Finding.{found-within, found-holds, added-found}
 use Rattle.store.specs.Laws.Wall.{Grows, grows-refl, grows-trans, Ready, kept-refl, Makeable, Placed, MakeLaw, was-placed, was-full}
 use Rattle.store.specs.Laws.Languages.{language-at, operator-over, language-of-operator, equal-of-path}
-pub use Rattle.store.specs.Laws.Members.{lower-left, lower-right}
 use Rattle.store.specs.Laws.Members.{members-set}
 use Rattle.store.specs.Laws.Merging.{merged-set}
 pub use Rattle.store.specs.Laws.Interning.{marked-nullable}
 use Rattle.store.specs.Laws.Interning.{Way, found, written, stopped, way, intern-found, intern-written, grows-found, fresh-kept}
-use Rattle.store.specs.Laws.Choosing.{set-settled, choice-kept}
+use Rattle.store.specs.Laws.Choosing.{set-settled, both-kept}
 use Rattle.store.specs.Laws.Rules.{make-given, make-kept, make-merged, Says, gives, stays, merges, says}
 use Rattle.store.specs.Laws.Growing.{pattern-new, good-more}
 pub use Rattle.store.specs.Laws.Meaning.{language-of-record, language-at-0, language-at-1}
-use Rattle.store.specs.Laws.Meaning.{union-of-merged}
+use Rattle.store.specs.Laws.Meaning.{merged-means}
 use Rattle.store.specs.Laws.Building.{Built, BuildLaw, was-built, ran-out, build-law}
 
 -- What a rule gives stands in the store and means the operator.
@@ -51,24 +51,25 @@ module _ {store : List Record} (g : Good store) where
     inside : place < length store
     equal : Equal (language-at store place) A
 
-  at-zero : (n : ℕ) → eqb n 0 ≡ true → Equal (language-at store n) (language no-pattern)
-  at-zero n e = subst (λ (m : ℕ). Equal (language-at store m) (language no-pattern)) (sym (eqb-true n 0 e)) (language-at-0 g)
+  at-zero : (n : ℕ) → eqb n nothing-place ≡ true → Equal (language-at store n) (language no-pattern)
+  at-zero n e = subst (λ (m : ℕ). Equal (language-at store m) (language no-pattern)) (sym (eqb-true n nothing-place e)) (language-at-0 g)
 
-  at-one : (n : ℕ) → eqb n 1 ≡ true → Equal (language-at store n) (language empty-pattern)
-  at-one n e = subst (λ (m : ℕ). Equal (language-at store m) (language empty-pattern)) (sym (eqb-true n 1 e)) (language-at-1 g)
+  at-one : (n : ℕ) → eqb n empty-word-place ≡ true → Equal (language-at store n) (language empty-pattern)
+  at-one n e = subst (λ (m : ℕ). Equal (language-at store m) (language empty-pattern)) (sym (eqb-true n empty-word-place e)) (language-at-1 g)
 
   is-given : {n place : ℕ} {A : Language} → Gives n ≡ Gives place → n < length store → Equal A (language-at store n) → Means place A
   is-given {A = A} e l q = subst (λ (m : ℕ). Means m A) (gives-one e) (record { inside = l; equal = equal-sym q })
 
   sequence-means : (left right place : ℕ) → left < length store → right < length store → sequence-rule left right ≡ Gives place
       → Means place (Concatenation (language-at store left) (language-at store right))
-  sequence-means left right place l m e = go (eqb left 0) refl (eqb right 0) refl (eqb left 1) refl (eqb right 1) refl e
+  sequence-means left right place l m e = go (eqb left nothing-place) refl (eqb right nothing-place) refl (eqb left empty-word-place) refl (eqb right empty-word-place) refl e
     where
       nothing-at-0 : Equal (language no-pattern) (language-at store 0)
       nothing-at-0 = equal-sym (language-at-0 g)
 
-      go : (a : Bool) → eqb left 0 ≡ a → (b : Bool) → eqb right 0 ≡ b → (c : Bool) → eqb left 1 ≡ c → (d : Bool) → eqb right 1 ≡ d
-          → cond (a || b) (Gives 0) (cond c (Gives right) (cond d (Gives left) Stays)) ≡ Gives place
+      go : (a : Bool) → eqb left nothing-place ≡ a → (b : Bool) → eqb right nothing-place ≡ b
+          → (c : Bool) → eqb left empty-word-place ≡ c → (d : Bool) → eqb right empty-word-place ≡ d
+          → cond (a || b) (Gives nothing-place) (cond c (Gives right) (cond d (Gives left) Stays)) ≡ Gives place
           → Means place (Concatenation (language-at store left) (language-at store right))
       go true p b q c r d s f =
           is-given f (omega arith)
@@ -91,13 +92,6 @@ module _ {store : List Record} (g : Good store) where
   rule-means Sequence c left right place l m e = sequence-means left right place l m e
   rule-means Repeat c left right place l m e = stays-not e
   rule-means Unknown c left right place l m e = stays-not e
-
--- A record that stays one is no choice.
-stays-no-choice : (kind left right : ℕ) → rule (kind-of kind) left right ≡ Stays → eqb kind choice-kind ≡ true → ⊥
-stays-no-choice kind left right e c = clash (sym (ap (λ (k : ℕ). rule (kind-of k) left right) (eqb-true kind choice-kind c)) ∙ e)
-  where
-    clash : Merges ≡ Stays → ⊥
-    clash h = let z : _≡_ {A = ℕ} 0 1 = cc in omega arith
 
 -- The law of making.
 
@@ -127,7 +121,7 @@ module _ {room : ℕ} {store : List Record} (ready : Ready room store) {kind let
       }
 
   -- A record that stays one: used or written.
-  module _ (e : rule (kind-of kind) left right ≡ Stays) where
+  module _ (no-set : is-set (kind-of kind) ≡ false) (e : rule (kind-of kind) left right ≡ Stays) where
     -- It is made by interning, here and in a grown store.
     interned : (room′ : ℕ) {grown : List Record} → Grows store grown → make room′ grown kind letter left right ≡ intern room′ grown made
     interned room′ {grown} k = make-kept room′ grown kind letter left right e ∙ ap (intern room′ grown) (fresh-kept k kind letter left right left-inside right-inside)
@@ -167,7 +161,7 @@ module _ {room : ℕ} {store : List Record} (ready : Ready room store) {kind let
         good : Good (store ++ made ∷ [])
         good =
             good-more store (ready .good) kind letter left right (can .line) (can .byte) (let legal = ready .legal in omega arith) f
-            (λ c. absurd (stays-no-choice kind left right e c))
+            (λ c. absurd (false≢true (sym no-set ∙ c)))
             (λ room′. interned room′ grows ∙ intern-found room′ (store ++ made ∷ []) made (added-found store made f))
             (λ room′ m. interned room′ (grows-refl store) ∙ intern-written room′ store made f m)
 
@@ -176,28 +170,28 @@ module _ {room : ℕ} {store : List Record} (ready : Ready room store) {kind let
     stays-law (written f l) = was-placed (wrote f l)
     stays-law (stopped f l) = was-full (record { kept = kept-refl ready; fills = let w = ready .within in omega arith })
 
-  -- A choice: the sets of its children, merged and built.
-  module _ (e : kind-of kind ≡ Choice) where
+  -- A set: those of its children, merged and built.
+  module _ (set : SetKind kind) (e : rule (kind-of kind) left right ≡ Merges) where
     abbrev both : List ℕ
-    both = merged (members store left) (members store right)
+    both = merged (members kind store left) (members kind store right)
 
-    chosen : (room′ : ℕ) {grown : List Record} → Grows store grown → make room′ grown kind letter left right ≡ built room′ grown both
-    chosen room′ {grown} k =
-        make-merged room′ grown kind letter left right (rw e) ∙ choice-kept (ready .good) k room′ left right left-inside right-inside
+    is-built : (room′ : ℕ) {grown : List Record} → Grows store grown → make room′ grown kind letter left right ≡ built room′ kind grown both
+    is-built room′ {grown} k =
+        make-merged room′ grown kind letter left right e ∙ both-kept set (ready .good) k room′ left right left-inside right-inside
 
-    set-placed : {place : ℕ} {store′ : List Record} → Built room store both place store′ → Placed room store kind letter left right place store′
+    set-placed : {place : ℕ} {store′ : List Record} → Built room kind store both place store′ → Placed room store kind letter left right place store′
     set-placed {place} {store′} h =
         record {
           kept = h .kept;
           inside = h .inside;
-          means = rw e (union-of-merged (ready .good) (h .kept .ready .good) (h .kept .grows) left-inside right-inside (h .inside) (h .lists));
+          means = merged-means set letter (ready .good) (h .kept .ready .good) (h .kept .grows) left-inside right-inside (h .inside) (h .lists);
           replays = λ room′ grown k.
-              chosen room′ (grows-trans (h .kept .grows) k)
-              ∙ ap (built room′ grown) (sym (h .lists)) ∙ set-settled (h .kept .ready .good) k room′ place (h .inside);
-          enough = λ room′ n. chosen room′ (grows-refl store) ∙ h .enough room′ n;
+              is-built room′ (grows-trans (h .kept .grows) k)
+              ∙ ap (built room′ kind grown) (sym (h .lists)) ∙ set-settled set (h .kept .ready .good) k room′ place (h .inside);
+          enough = λ room′ n. is-built room′ (grows-refl store) ∙ h .enough room′ n;
         }
 
-    merges-law : {m : Making} → BuildLaw room store both m → MakeLaw room store kind letter left right m
+    merges-law : {m : Making} → BuildLaw room kind store both m → MakeLaw room store kind letter left right m
     merges-law (was-built h) = was-placed (set-placed h)
     merges-law (ran-out h) = was-full h
 
@@ -206,8 +200,9 @@ module _ {room : ℕ} {store : List Record} (ready : Ready room store) {kind let
     where
       go : Says (kind-of kind) left right → MakeLaw room store kind letter left right (make room store kind letter left right)
       go (gives place e) = rw (make-given room store kind letter left right e) (was-placed (given place e))
-      go (stays e) = rw (make-kept room store kind letter left right e) (stays-law e (way room store made))
-      go (merges e) =
-          subst (MakeLaw room store kind letter left right) (sym (chosen e room (grows-refl store)))
-          (merges-law e
-          (build-law ready (merged-set (members-set (ready .good) left left-inside) (members-set (ready .good) right right-inside))))
+      go (stays s e) = rw (make-kept room store kind letter left right e) (stays-law s e (way room store made))
+      go (merges s e) =
+          let set : SetKind kind = record { is = s } in
+          subst (MakeLaw room store kind letter left right) (sym (is-built set e room (grows-refl store)))
+          (merges-law set e
+          (build-law set ready (merged-set (members-set set (ready .good) left left-inside) (members-set set (ready .good) right right-inside))))

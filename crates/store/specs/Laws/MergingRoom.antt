@@ -1,5 +1,5 @@
--- Merging in a room: where a set is used up the other comes out; else the lower of the two first members is put before the choice of what
--- is left of both, in the room that making this choice left.
+-- Merging in a room: where a set is used up the other comes out; else the lower of the two first members is put before the set of what
+-- is left of both, in the room that making this set left.
 use Prim.Native.Nat.{ℕ, zero, suc, _+_, _<_, _≤_}
 use native.Mathlib.Omega.{arith}
 use mathlib.Core.Bool.{Bool, true, false, cond, _||_, false≢true}
@@ -8,20 +8,20 @@ use mathlib.Core.Path.{_≡_, refl, sym, _∙_, ap, ap₂, subst}
 use lib.Dec.{eqb, ltb}
 use lib.ListN.{length, length-append}
 use borrow.Author.Tests.{eqb-true, lt-ltb, le-ltb, eq-eqb, ne-eqb}
-use Rattle.cards.specs.declared.record.Record.{Record}
-use Rattle.store.specs.declared.making.Made.{Made}
-use Rattle.store.specs.declared.making.Made.the-variants.{Placed, Full}
+use Rattle.records.specs.declared.record.Record.{Record}
+use Rattle.store.specs.declared.interning.Made.{Made}
+use Rattle.store.specs.declared.interning.Made.the-variants.{Placed, Full}
 use Rattle.store.specs.Room.{store-in, places-of, laid}
-use Rattle.store.specs.Making.{Making, placed, new-record, choice-kind, first, behind, members, merged, put-before, built, choice, after, intern}
+use Rattle.store.specs.Making.{Making, placed, new-record, first, behind, members, merged, put-before, built, set-of-both, after, intern}
 use Rattle.store.specs.declared.merging.Side.{Side}
 use Rattle.store.specs.Told.{told-making, side}
-use Rattle.store.specs.Good.{Good, Set, member, GoodStore}
+use Rattle.store.specs.Good.{SetKind, Good, Set, member, GoodStore}
 use Rattle.store.specs.Laws.Room.{laid-same, laid-laid}
 use Rattle.store.specs.Laws.Wall.{grows-refl, grows-length}
 use Rattle.store.specs.Laws.Members.{behind-lower, members-of-nothing, members-step, members-set}
 use Rattle.store.specs.Laws.Merging.{merged-none, merged-with-none, merged-self, merged-left, merged-same, merged-right, merged-set, Order, lower, same, higher, order}
 use Rattle.store.specs.Laws.Interning.{Way, found, written, stopped, way}
-use Rattle.store.specs.Laws.Choosing.{set-settled, choice-kept, built-more}
+use Rattle.store.specs.Laws.Choosing.{set-settled, both-kept, built-more}
 use Rattle.store.specs.Laws.Building.{BuildLaw, was-built, ran-out, build-law}
 use Rattle.store.specs.Laws.GoodRoom.{room-ready, length-store-in, places-after, store-after, good-after}
 
@@ -29,75 +29,81 @@ use Rattle.store.specs.Laws.GoodRoom.{room-ready, length-store-in, place
 abbrev pub lower-of : ℕ → ℕ → ℕ
 lower-of one other = cond (ltb one other) one other
 
-abbrev pub left-of : List Record → ℕ → ℕ → ℕ
-left-of store m place = cond (eqb (first store place) m) (behind store place) place
+abbrev pub left-of : ℕ → List Record → ℕ → ℕ → ℕ
+left-of kind store m place = cond (eqb (first kind store place) m) (behind kind store place) place
 
--- A step: of the choice of two places the member n is put before the choice of what is left of both.
-record Step (room : ℕ) (store : List Record) (left right n one other : ℕ) : Type 0 where
+-- A step: of the set of both places' members the member n is put before the set of what is left of both.
+record Step (room kind : ℕ) (store : List Record) (left right n one other : ℕ) : Type 0 where
   inside : n < length store
   one-inside : one < length store
   other-inside : other < length store
   falls : one + other < left + right
-  is : choice room store left right ≡ put-before room n (choice room store one other)
+  is : set-of-both room kind store left right ≡ put-before room kind n (set-of-both room kind store one other)
 
-module _ {store : List Record} (g : Good store) (room : ℕ) where
+module _ {kind : ℕ} (set : SetKind kind) {store : List Record} (g : Good store) (room : ℕ) where
   by-members : (left right : ℕ) → left < length store → right < length store
-      → choice room store left right ≡ built room store (merged (members store left) (members store right))
-  by-members left right l m = choice-kept g (grows-refl store) room left right l m
+      → set-of-both room kind store left right ≡ built room kind store (merged (members kind store left) (members kind store right))
+  by-members left right l m = both-kept set g (grows-refl store) room left right l m
 
-  settled : (place : ℕ) → place < length store → built room store (members store place) ≡ placed place store
-  settled place l = set-settled g (grows-refl store) room place l
+  settled : (place : ℕ) → place < length store → built room kind store (members kind store place) ≡ placed place store
+  settled place l = set-settled set g (grows-refl store) room place l
 
   -- A set that is used up, and a set with itself.
-  pub none-left : (left right : ℕ) → left < length store → right < length store → left ≡ 0 → choice room store left right ≡ placed right store
+  pub none-left : (left right : ℕ) → left < length store → right < length store → left ≡ 0 → set-of-both room kind store left right ≡ placed right store
   none-left left right l m e =
       by-members left right l m
-      ∙ ap (λ (ms : List ℕ). built room store (merged ms (members store right))) (ap (members store) e ∙ members-of-nothing store)
-      ∙ ap (built room store) (merged-none (members store right)) ∙ settled right m
+      ∙ ap (λ (ms : List ℕ). built room kind store (merged ms (members kind store right))) (ap (members kind store) e ∙ members-of-nothing kind store)
+      ∙ ap (built room kind store) (merged-none (members kind store right)) ∙ settled right m
 
-  pub none-right : (left right : ℕ) → left < length store → right < length store → right ≡ 0 → choice room store left right ≡ placed left store
+  pub none-right : (left right : ℕ) → left < length store → right < length store → right ≡ 0 → set-of-both room kind store left right ≡ placed left store
   none-right left right l m e =
       by-members left right l m
-      ∙ ap (λ (ms : List ℕ). built room store (merged (members store left) ms)) (ap (members store) e ∙ members-of-nothing store)
-      ∙ ap (built room store) (merged-with-none (members-set g left l)) ∙ settled left l
+      ∙ ap (λ (ms : List ℕ). built room kind store (merged (members kind store left) ms)) (ap (members kind store) e ∙ members-of-nothing kind store)
+      ∙ ap (built room kind store) (merged-with-none (members-set set g left l)) ∙ settled left l
 
-  pub one-set : (left right : ℕ) → left < length store → right < length store → left ≡ right → choice room store left right ≡ placed right store
+  pub one-set : (left right : ℕ) → left < length store → right < length store → left ≡ right → set-of-both room kind store left right ≡ placed right store
   one-set left right l m e =
       by-members left right l m
-      ∙ ap (λ (n : ℕ). built room store (merged (members store n) (members store right))) e
-      ∙ ap (built room store) (merged-self (members-set g right m)) ∙ settled right m
+      ∙ ap (λ (n : ℕ). built room kind store (merged (members kind store n) (members kind store right))) e
+      ∙ ap (built room kind store) (merged-self (members-set set g right m)) ∙ settled right m
 
   -- Both have a member: the lower first one is put before what is left of both.
   module _ (left right : ℕ) (p : 0 < left) (l : left < length store) (q : 0 < right) (m : right < length store) where
     abbrev a : ℕ
-    a = first store left
+    a = first kind store left
 
     abbrev b : ℕ
-    b = first store right
+    b = first kind store right
 
     abbrev low : ℕ
     low = lower-of a b
 
-    set-of : (place : ℕ) → 0 < place → place < length store → Set store 0 (first store place ∷ members store (behind store place))
-    set-of place p l = subst (Set store 0) (members-step g place p l) (members-set g place l)
+    abbrev after-a : List ℕ
+    after-a = members kind store (behind kind store left)
 
-    both : choice room store left right ≡ built room store (merged (a ∷ members store (behind store left)) (b ∷ members store (behind store right)))
+    abbrev after-b : List ℕ
+    after-b = members kind store (behind kind store right)
+
+    set-of : (place : ℕ) → 0 < place → place < length store → Set kind store 0 (first kind store place ∷ members kind store (behind kind store place))
+    set-of place p l = subst (Set kind store 0) (members-step kind g place p l) (members-set set g place l)
+
+    both : set-of-both room kind store left right ≡ built room kind store (merged (a ∷ after-a) (b ∷ after-b))
     both =
         by-members left right l m
-        ∙ ap (λ (ms : List ℕ). built room store (merged ms (members store right))) (members-step g left p l)
-        ∙ ap (λ (ms : List ℕ). built room store (merged (a ∷ members store (behind store left)) ms)) (members-step g right q m)
+        ∙ ap (λ (ms : List ℕ). built room kind store (merged ms (members kind store right))) (members-step kind g left p l)
+        ∙ ap (λ (ms : List ℕ). built room kind store (merged (a ∷ after-a) ms)) (members-step kind g right q m)
 
     step-by : {n one other : ℕ} → one < length store → other < length store
-        → merged (a ∷ members store (behind store left)) (b ∷ members store (behind store right)) ≡ n ∷ merged (members store one) (members store other)
-        → choice room store left right ≡ put-before room n (choice room store one other)
+        → merged (a ∷ after-a) (b ∷ after-b) ≡ n ∷ merged (members kind store one) (members kind store other)
+        → set-of-both room kind store left right ≡ put-before room kind n (set-of-both room kind store one other)
     step-by {n} {one} {other} i j e =
-        both ∙ ap (built room store) e ∙ built-more room store n (merged (members store one) (members store other))
-        ∙ ap (put-before room n) (sym (by-members one other i j))
+        both ∙ ap (built room kind store) e ∙ built-more room kind store n (merged (members kind store one) (members kind store other))
+        ∙ ap (put-before room kind n) (sym (by-members one other i j))
 
-    lower-step : a < b → Set store 0 (a ∷ members store (behind store left)) → Set store 0 (b ∷ members store (behind store right))
-        → Step room store left right a (behind store left) right
+    lower-step : a < b → Set kind store 0 (a ∷ after-a) → Set kind store 0 (b ∷ after-b)
+        → Step room kind store left right a (behind kind store left) right
     lower-step h (member u i e s) (member v j f t) =
-        let c = behind-lower g left p l in
+        let c = behind-lower kind g left p l in
         record {
           inside = i;
           one-inside = omega arith;
@@ -106,25 +112,25 @@ module _ {store : List Record} (g : Good store) (room : ℕ) where
           is =
               step-by (omega arith) m
               (merged-left h s t j f
-              ∙ ap (λ (ms : List ℕ). a ∷ merged (members store (behind store left)) ms) (sym (members-step g right q m)));
+              ∙ ap (λ (ms : List ℕ). a ∷ merged after-a ms) (sym (members-step kind g right q m)));
         }
 
-    same-step : a ≡ b → Set store 0 (a ∷ members store (behind store left)) → Step room store left right a (behind store left) (behind store right)
+    same-step : a ≡ b → Set kind store 0 (a ∷ after-a) → Step room kind store left right a (behind kind store left) (behind kind store right)
     same-step h (member u i e s) =
-        let c = behind-lower g left p l in
-        let d = behind-lower g right q m in
+        let c = behind-lower kind g left p l in
+        let d = behind-lower kind g right q m in
         record {
           inside = i;
           one-inside = omega arith;
           other-inside = omega arith;
           falls = omega arith;
-          is = step-by (omega arith) (omega arith) (merged-same (members store (behind store right)) h s);
+          is = step-by (omega arith) (omega arith) (merged-same after-b h s);
         }
 
-    higher-step : b < a → Set store 0 (a ∷ members store (behind store left)) → Set store 0 (b ∷ members store (behind store right))
-        → Step room store left right b left (behind store right)
+    higher-step : b < a → Set kind store 0 (a ∷ after-a) → Set kind store 0 (b ∷ after-b)
+        → Step room kind store left right b left (behind kind store right)
     higher-step h (member u i e s) (member v j f t) =
-        let d = behind-lower g right q m in
+        let d = behind-lower kind g right q m in
         record {
           inside = j;
           one-inside = l;
@@ -132,33 +138,34 @@ module _ {store : List Record} (g : Good store) (room : ℕ) where
           falls = omega arith;
           is =
               step-by l (omega arith)
-              (merged-right (members store (behind store right)) (member h i e s)
-              ∙ ap (λ (ms : List ℕ). b ∷ merged ms (members store (behind store right))) (sym (members-step g left p l)));
+              (merged-right after-b (member h i e s)
+              ∙ ap (λ (ms : List ℕ). b ∷ merged ms after-b) (sym (members-step kind g left p l)));
         }
 
-    step : Step room store left right low (left-of store low left) (left-of store low right)
+    step : Step room kind store left right low (left-of kind store low left) (left-of kind store low right)
     step = go (order a b)
       where
-        go : Order a b → Step room store left right low (left-of store low left) (left-of store low right)
+        go : Order a b → Step room kind store left right low (left-of kind store low left) (left-of kind store low right)
         go (lower h) =
             rw (lt-ltb a b h, eq-eqb a a refl, ne-eqb b a (λ z. omega arith)) (lower-step h (set-of left p l) (set-of right q m))
         go (same h) =
-            rw (le-ltb a b (omega arith), eq-eqb a b h, eq-eqb b b refl) (subst (λ (n : ℕ). Step room store left right n (behind store left) (behind store right)) h (same-step h (set-of left p l)))
+            rw (le-ltb a b (omega arith), eq-eqb a b h, eq-eqb b b refl)
+            (subst (λ (n : ℕ). Step room kind store left right n (behind kind store left) (behind kind store right)) h (same-step h (set-of left p l)))
         go (higher h) =
             rw (le-ltb a b (omega arith), ne-eqb a b (λ z. omega arith), eq-eqb b b refl) (higher-step h (set-of left p l) (set-of right q m))
 
 -- Putting a member before a set only adds records.
-put-before-longer : (room m rest : ℕ) (store : List Record) → length store ≤ length (after (put-before room m (placed rest store)))
-put-before-longer room m rest store = go (eqb rest 0)
+put-before-longer : (room kind m rest : ℕ) (store : List Record) → length store ≤ length (after (put-before room kind m (placed rest store)))
+put-before-longer room kind m rest store = go (eqb rest 0)
   where
-    used : {made : Making} → Way room store (new-record store choice-kind 0 m rest) made → length store ≤ length (after made)
+    used : {made : Making} → Way room store (new-record store kind 0 m rest) made → length store ≤ length (after made)
     used (found f) = omega arith
-    used (written f l) = omega (arith, length-append store (new-record store choice-kind 0 m rest ∷ []))
+    used (written f l) = omega (arith, length-append store (new-record store kind 0 m rest ∷ []))
     used (stopped f l) = omega arith
 
-    go : (b : Bool) → length store ≤ length (after (cond b (placed m store) (intern room store (new-record store choice-kind 0 m rest))))
+    go : (b : Bool) → length store ≤ length (after (cond b (placed m store) (intern room store (new-record store kind 0 m rest))))
     go true = omega arith
-    go false = used (way room store (new-record store choice-kind 0 m rest))
+    go false = used (way room store (new-record store kind 0 m rest))
 
 -- In a room.
 
@@ -176,15 +183,15 @@ tells-placed {room} {places} g {place} e =
       leaves = rw e (sym (laid-same places room (g .fits) (g .bytes)));
     }
 
-module _ {room : List ℕ} {places : ℕ} (g : GoodStore room places) (one other : ℕ) (i : one < places) (j : other < places)
-    {answer : Made} {room′ : List ℕ} (t : Tells room (choice (places-of room) (store-in room places) one other) answer room′) where
+module _ {kind : ℕ} (set : SetKind kind) {room : List ℕ} {places : ℕ} (g : GoodStore room places) (one other : ℕ) (i : one < places) (j : other < places)
+    {answer : Made} {room′ : List ℕ} (t : Tells room (set-of-both (places-of room) kind (store-in room places) one other) answer room′) where
   abbrev of-both : List ℕ
-  of-both = merged (members (store-in room places) one) (members (store-in room places) other)
+  of-both = merged (members kind (store-in room places) one) (members kind (store-in room places) other)
 
   abbrev rest-made : Making
-  rest-made = choice (places-of room) (store-in room places) one other
+  rest-made = set-of-both (places-of room) kind (store-in room places) one other
 
-  -- The room after the choice of what is left, and its place there.
+  -- The room after the set of what is left, and its place there.
   record Next (place taken : ℕ) : Type 0 where
     good : GoodStore room′ taken
     inside : place < taken
@@ -193,18 +200,18 @@ module _ {room : List ℕ} {places : ℕ} (g : GoodStore room places) (one other
     as-many : places-of room′ ≡ places-of room
     covers : (store : List Record) → taken ≤ length store → laid store room′ ≡ laid store room
 
-  law : BuildLaw (places-of room) (store-in room places) of-both rest-made
+  law : BuildLaw (places-of room) kind (store-in room places) of-both rest-made
   law =
       let ready = room-ready g in
       let a : one < length (store-in room places) = omega (arith, length-store-in room places) in
       let b : other < length (store-in room places) = omega (arith, length-store-in room places) in
-      subst (BuildLaw (places-of room) (store-in room places) of-both) (sym (by-members (ready .good) (places-of room) one other a b))
-      (build-law ready (merged-set (members-set (ready .good) one a) (members-set (ready .good) other b)))
+      subst (BuildLaw (places-of room) kind (store-in room places) of-both) (sym (by-members set (ready .good) (places-of room) one other a b))
+      (build-law set ready (merged-set (members-set set (ready .good) one a) (members-set set (ready .good) other b)))
 
   next : {place taken : ℕ} → answer ≡ Placed place taken → Next place taken
   next {place} {taken} e = go law refl
     where
-      go : {made : Making} → BuildLaw (places-of room) (store-in room places) of-both made → rest-made ≡ made → Next place taken
+      go : {made : Making} → BuildLaw (places-of room) kind (store-in room places) of-both made → rest-made ≡ made → Next place taken
       go (was-built {place = p} {store′ = store′} h) f =
           let r : room′ ≡ laid store′ room = t .leaves ∙ ap (λ (m : Making). laid (after m) room) f in
           let k : Placed p (length store′) ≡ Placed place taken = sym (t .answers ∙ ap told-making f) ∙ e in
@@ -226,36 +233,39 @@ module _ {room : List ℕ} {places : ℕ} (g : GoodStore room places) (one other
           absurd (omega arith)
 
   -- The room ran out there: so it does here.
-  full-there : (n : ℕ) {whole : Making} {taken : ℕ} → whole ≡ put-before (places-of room) n rest-made → answer ≡ Full taken
+  full-there : (n : ℕ) {whole : Making} {taken : ℕ} → whole ≡ put-before (places-of room) kind n rest-made → answer ≡ Full taken
       → Tells room whole (Full taken) room′
   full-there n {whole} {taken} w e = go law refl
     where
-      go : {made : Making} → BuildLaw (places-of room) (store-in room places) of-both made → rest-made ≡ made → Tells room whole (Full taken) room′
+      go : {made : Making} → BuildLaw (places-of room) kind (store-in room places) of-both made → rest-made ≡ made → Tells room whole (Full taken) room′
       go (was-built {place = p} {store′ = store′} h) f =
           let k : Placed p (length store′) ≡ Full taken = sym (t .answers ∙ ap told-making f) ∙ e in
           let z : _≡_ {A = ℕ} 0 1 = cc in
           absurd (omega arith)
       go (ran-out {store′ = store′} h) f =
           record {
-            answers = sym e ∙ t .answers ∙ ap told-making (f ∙ sym (w ∙ ap (put-before (places-of room) n) f));
-            leaves = t .leaves ∙ ap (λ (m : Making). laid (after m) room) (f ∙ sym (w ∙ ap (put-before (places-of room) n) f));
+            answers = sym e ∙ t .answers ∙ ap told-making (f ∙ sym (w ∙ ap (put-before (places-of room) kind n) f));
+            leaves = t .leaves ∙ ap (λ (m : Making). laid (after m) room) (f ∙ sym (w ∙ ap (put-before (places-of room) kind n) f));
           }
 
   -- The member was put before what was made there.
-  put-there : (n : ℕ) {whole : Making} {place taken : ℕ} → whole ≡ put-before (places-of room) n rest-made → Next place taken
-      → {made : Made} {exit : List ℕ} → Tells room′ (put-before (places-of room′) n (placed place (store-in room′ taken))) made exit
+  put-there : (n : ℕ) {whole : Making} {place taken : ℕ} → whole ≡ put-before (places-of room) kind n rest-made → Next place taken
+      → {made : Made} {exit : List ℕ} → Tells room′ (put-before (places-of room′) kind n (placed place (store-in room′ taken))) made exit
       → Tells room whole made exit
   put-there n {whole} {place} {taken} w h {made} {exit} u =
       record { answers = u .answers ∙ ap told-making here; leaves = u .leaves ∙ h .covers _ longer ∙ ap (λ (m : Making). laid (after m) room) here }
     where
-      here : put-before (places-of room′) n (placed place (store-in room′ taken)) ≡ whole
-      here = ap (λ (c : ℕ). put-before c n (placed place (store-in room′ taken))) (h .as-many) ∙ ap (put-before (places-of room) n) (sym (h .is)) ∙ sym w
+      here : put-before (places-of room′) kind n (placed place (store-in room′ taken)) ≡ whole
+      here =
+          ap (λ (c : ℕ). put-before c kind n (placed place (store-in room′ taken))) (h .as-many)
+          ∙ ap (put-before (places-of room) kind n) (sym (h .is)) ∙ sym w
 
-      longer : taken ≤ length (after (put-before (places-of room′) n (placed place (store-in room′ taken))))
-      longer = omega (arith, put-before-longer (places-of room′) n place (store-in room′ taken), length-store-in room′ taken)
+      longer : taken ≤ length (after (put-before (places-of room′) kind n (placed place (store-in room′ taken))))
+      longer = omega (arith, put-before-longer (places-of room′) kind n place (store-in room′ taken), length-store-in room′ taken)
 
 -- Two sets of a room's store, as they were read.
-module _ {room : List ℕ} {places : ℕ} (g : GoodStore room places) (left right : Side) (inside : (left .place < places) × (right .place < places)) where
+module _ {kind : ℕ} (set : SetKind kind) {room : List ℕ} {places : ℕ} (g : GoodStore room places) (left right : Side)
+    (inside : (left .place < places) × (right .place < places)) where
   abbrev here : List Record
   here = store-in room places
 
@@ -267,16 +277,16 @@ module _ {room : List ℕ} {places : ℕ} (g : GoodStore room places) (left righ
 
   -- One is used up, or both are one.
   pub tells-right : eqb (left .place) 0 || eqb (left .place) (right .place) ≡ true
-      → Tells room (choice (places-of room) here (left .place) (right .place)) (Placed (right .place) places) room
+      → Tells room (set-of-both (places-of room) kind here (left .place) (right .place)) (Placed (right .place) places) room
   tells-right t = tells-placed g (go (eqb (left .place) 0) refl t)
     where
       go : (b : Bool) → eqb (left .place) 0 ≡ b → b || eqb (left .place) (right .place) ≡ true
-          → choice (places-of room) here (left .place) (right .place) ≡ placed (right .place) here
-      go true e t = none-left (g .good) (places-of room) (left .place) (right .place) left-inside right-inside (eqb-true (left .place) 0 e)
-      go false e t = one-set (g .good) (places-of room) (left .place) (right .place) left-inside right-inside (eqb-true (left .place) (right .place) t)
+          → set-of-both (places-of room) kind here (left .place) (right .place) ≡ placed (right .place) here
+      go true e t = none-left set (g .good) (places-of room) (left .place) (right .place) left-inside right-inside (eqb-true (left .place) 0 e)
+      go false e t = one-set set (g .good) (places-of room) (left .place) (right .place) left-inside right-inside (eqb-true (left .place) (right .place) t)
 
-  pub tells-left : right .place ≡ 0 → Tells room (choice (places-of room) here (left .place) (right .place)) (Placed (left .place) places) room
-  tells-left e = tells-placed g (none-right (g .good) (places-of room) (left .place) (right .place) left-inside right-inside e)
+  pub tells-left : right .place ≡ 0 → Tells room (set-of-both (places-of room) kind here (left .place) (right .place)) (Placed (left .place) places) room
+  tells-left e = tells-placed g (none-right set (g .good) (places-of room) (left .place) (right .place) left-inside right-inside e)
 
   some-left : eqb (left .place) 0 || eqb (left .place) (right .place) ≡ false → 0 < left .place
   some-left t = go (left .place) t
@@ -287,59 +297,61 @@ module _ {room : List ℕ} {places : ℕ} (g : GoodStore room places) (left righ
 
   -- Neither is: the step that the code takes.
   module _ (t : eqb (left .place) 0 || eqb (left .place) (right .place) ≡ false) (some-right : right .place ≡ 0 → ⊥)
-      (is-left : left ≡ side here (left .place)) (is-right : right ≡ side here (right .place))
+      (is-left : left ≡ side kind here (left .place)) (is-right : right ≡ side kind here (right .place))
       {m : ℕ} (is-lower : m ≡ lower-of (left .first) (right .first)) {one other : Side}
-      (is-one : one ≡ side here (cond (eqb (left .first) m) (left .behind) (left .place)))
-      (is-other : other ≡ side here (cond (eqb (right .first) m) (right .behind) (right .place))) where
+      (is-one : one ≡ side kind here (cond (eqb (left .first) m) (left .behind) (left .place)))
+      (is-other : other ≡ side kind here (cond (eqb (right .first) m) (right .behind) (right .place))) where
     p : 0 < left .place
     p = some-left t
 
     q : 0 < right .place
     q = omega (arith, some-right)
 
-    step-member : m ≡ lower-of (first here (left .place)) (first here (right .place))
+    step-member : m ≡ lower-of (first kind here (left .place)) (first kind here (right .place))
     step-member = is-lower ∙ ap₂ lower-of (ap (λ (s : Side). s .first) is-left) (ap (λ (s : Side). s .first) is-right)
 
-    left-behind : (set : Side) → set ≡ side here (set .place) → {rest : Side} → rest ≡ side here (cond (eqb (set .first) m) (set .behind) (set .place))
-        → rest .place ≡ left-of here (lower-of (first here (left .place)) (first here (right .place))) (set .place)
-    left-behind set e {rest} f =
+    left-behind : (read : Side) → read ≡ side kind here (read .place)
+        → {rest : Side} → rest ≡ side kind here (cond (eqb (read .first) m) (read .behind) (read .place))
+        → rest .place ≡ left-of kind here (lower-of (first kind here (left .place)) (first kind here (right .place))) (read .place)
+    left-behind read e {rest} f =
         ap (λ (s : Side). s .place) f
-        ∙ ap (λ (s : Side). cond (eqb (s .first) m) (s .behind) (set .place)) e
-        ∙ ap (λ (n : ℕ). left-of here n (set .place)) step-member
+        ∙ ap (λ (s : Side). cond (eqb (s .first) m) (s .behind) (read .place)) e
+        ∙ ap (λ (n : ℕ). left-of kind here n (read .place)) step-member
 
-    stepped : Step (places-of room) here (left .place) (right .place) m (one .place) (other .place)
+    stepped : Step (places-of room) kind here (left .place) (right .place) m (one .place) (other .place)
     stepped =
         rw (step-member, left-behind left is-left is-one, left-behind right is-right is-other)
-        (step (g .good) (places-of room) (left .place) (right .place) p left-inside q right-inside)
+        (step set (g .good) (places-of room) (left .place) (right .place) p left-inside q right-inside)
 
     insides : (one .place < places) × (other .place < places)
     insides =
         let n = length-store-in room places in
         (omega (arith, stepped .one-inside, n), omega (arith, stepped .other-inside, n))
 
-    as-read : {set : Side} {n : ℕ} → set ≡ side here n → set ≡ side here (set .place)
-    as-read e = e ∙ ap (side here) (sym (ap (λ (s : Side). s .place) e))
+    as-read : {s : Side} {n : ℕ} → s ≡ side kind here n → s ≡ side kind here (s .place)
+    as-read e = e ∙ ap (side kind here) (sym (ap (λ (s : Side). s .place) e))
 
     -- What is left can be merged, and is less.
     pub falls : one .place + other .place < left .place + right .place
     falls = stepped .falls
 
-    pub can-merge : ((one .place < places) × (other .place < places)) × ((one ≡ side here (one .place)) × (other ≡ side here (other .place)))
-    can-merge = (insides, (as-read is-one, as-read is-other))
+    pub can-merge : ((one .place < places) × (other .place < places))
+        × ((one ≡ side kind here (one .place)) × ((other ≡ side kind here (other .place)) × SetKind kind))
+    can-merge = (insides, (as-read is-one, (as-read is-other, set)))
 
     -- What was made of it, in the room that this left.
-    module _ {answer : Made} {room′ : List ℕ} (u : Tells room (choice (places-of room) here (one .place) (other .place)) answer room′) where
+    module _ {answer : Made} {room′ : List ℕ} (u : Tells room (set-of-both (places-of room) kind here (one .place) (other .place)) answer room′) where
       pub can-put : {place taken : ℕ} → answer ≡ Placed place taken → GoodStore room′ taken × ((m < taken) × (place < taken))
       can-put e =
-          let h = next g (one .place) (other .place) (insides .0) (insides .1) u e in
+          let h = next set g (one .place) (other .place) (insides .0) (insides .1) u e in
           (h .good, (omega (arith, h .more, stepped .inside, length-store-in room places), h .inside))
 
       pub put : {place taken : ℕ} → answer ≡ Placed place taken → {made : Made} {exit : List ℕ}
-          → Tells room′ (put-before (places-of room′) m (placed place (store-in room′ taken))) made exit
-          → Tells room (choice (places-of room) here (left .place) (right .place)) made exit
+          → Tells room′ (put-before (places-of room′) kind m (placed place (store-in room′ taken))) made exit
+          → Tells room (set-of-both (places-of room) kind here (left .place) (right .place)) made exit
       put e v =
-          put-there g (one .place) (other .place) (insides .0) (insides .1) u m (stepped .is)
-          (next g (one .place) (other .place) (insides .0) (insides .1) u e) v
+          put-there set g (one .place) (other .place) (insides .0) (insides .1) u m (stepped .is)
+          (next set g (one .place) (other .place) (insides .0) (insides .1) u e) v
 
-      pub filled : {taken : ℕ} → answer ≡ Full taken → Tells room (choice (places-of room) here (left .place) (right .place)) (Full taken) room′
-      filled e = full-there g (one .place) (other .place) (insides .0) (insides .1) u m (stepped .is) e
+      pub filled : {taken : ℕ} → answer ≡ Full taken → Tells room (set-of-both (places-of room) kind here (left .place) (right .place)) (Full taken) room′
+      filled e = full-there set g (one .place) (other .place) (insides .0) (insides .1) u m (stepped .is) e

@@ -1,13 +1,13 @@
 -- What sets are: the members of what is merged are those of both; sets of the same members are one list, so that order and grouping play
--- no part; and the language of a place is the union of its members' languages.
+-- no part.
 use Prim.Native.Nat.{ℕ, _<_}
 use native.Mathlib.Omega.{arith}
 use mathlib.Core.List.{List, [], _∷_, List·Memᴰ·head, List·Memᴰ·tail, List·Memᴰ·not-nil, List·Memᴰ·cases-cons}
 use mathlib.Core.Logic.{_⊎_, inl, inr, ⊎-elim}
 use mathlib.Core.Path.{_≡_, refl, sym, _∙_, ap₂, subst}
 use Rattle.language.specs.Word.{Listed}
-use Rattle.cards.specs.declared.record.Record.{Record}
-use Rattle.store.specs.Making.{members, entered, merged}
+use Rattle.records.specs.declared.record.Record.{Record}
+use Rattle.store.specs.Making.{entered, merged}
 use Rattle.store.specs.Good.{Set, none, member}
 use Rattle.store.specs.Laws.Merging.{entered-none, entered-before, entered-at, entered-behind, merged-none, merged-more, Order, lower, same, higher, order, merged-set}
 
@@ -61,15 +61,15 @@ merged-to (m ∷ ms) ns k h =
     (λ t. List·Memᴰ·tail (merged-to ms ns k (inr t)))
     h))
 
-module _ {store : List Record} where
+module _ {kind : ℕ} {store : List Record} where
   -- Each member stands above the low place.
-  pub listed-above : {low : ℕ} {ms : List ℕ} → Set store low ms → (k : ℕ) → Listed ms k → low < k
+  pub listed-above : {low : ℕ} {ms : List ℕ} → Set kind store low ms → (k : ℕ) → Listed ms k → low < k
   listed-above none k h = absurd (List·Memᴰ·not-nil h)
   listed-above (member a l e s) k h =
       ⊎-elim (λ f. omega arith) (λ t. let b = listed-above s k t in omega arith) (List·Memᴰ·cases-cons h)
 
   -- Sets of the same members are one list.
-  pub one-set : {low low′ : ℕ} {ms ns : List ℕ} → Set store low ms → Set store low′ ns → SameMembers ms ns → ms ≡ ns
+  pub one-set : {low low′ : ℕ} {ms ns : List ℕ} → Set kind store low ms → Set kind store low′ ns → SameMembers ms ns → ms ≡ ns
   one-set none none h = refl
   one-set none (member {m = n} b k f t) h = absurd (List·Memᴰ·not-nil (h .from n (List·Memᴰ·head refl)))
   one-set (member {m = m} a l e s) none h = absurd (List·Memᴰ·not-nil (h .to m (List·Memᴰ·head refl)))
@@ -94,7 +94,7 @@ module _ {store : List Record} where
           }
 
   -- Two sets merged in either order, and three in either grouping.
-  pub merged-either-order : {low : ℕ} {ms ns : List ℕ} → Set store low ms → Set store low ns → merged ms ns ≡ merged ns ms
+  pub merged-either-order : {low : ℕ} {ms ns : List ℕ} → Set kind store low ms → Set kind store low ns → merged ms ns ≡ merged ns ms
   merged-either-order {ms = ms} {ns = ns} s t =
       one-set (merged-set s t) (merged-set t s)
       (record {
@@ -102,7 +102,7 @@ module _ {store : List Record} where
         from = λ k h. merged-to ms ns k (⊎-elim inr inl (merged-from ns ms k h));
       })
 
-  pub merged-either-grouping : {low : ℕ} {ls ms ns : List ℕ} → Set store low ls → Set store low ms → Set store low ns
+  pub merged-either-grouping : {low : ℕ} {ls ms ns : List ℕ} → Set kind store low ls → Set kind store low ms → Set kind store low ns
       → merged (merged ls ms) ns ≡ merged ls (merged ms ns)
   merged-either-grouping {ls = ls} {ms = ms} {ns = ns} r s t =
       one-set (merged-set (merged-set r s) t) (merged-set r (merged-set s t))

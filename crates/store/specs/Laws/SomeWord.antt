@@ -3,7 +3,7 @@
 use Prim.Native.Nat.{ℕ, zero, suc, _<_}
 use native.Mathlib.Decide.{decLt}
 use native.Mathlib.Omega.{arith}
-use mathlib.Core.Bool.{or-true}
+use mathlib.Core.Bool.{false≢true, or-true}
 use mathlib.Core.List.{List, [], _∷_, _++_}
 use mathlib.Core.Logic.{inl}
 use mathlib.Core.Path.{_≡_, refl, sym, _∙_, ap}
@@ -13,16 +13,20 @@ use lib.ListN.{length}
 use Rattle.language.specs.Word.{Word, Bytes, none, one}
 use Rattle.language.specs.Laws.Words.{over-join}
 use Rattle.language.specs.Laws.Derivative.{nullable}
-use Rattle.cards.specs.declared.record.Record.{Record}
-use Rattle.cards.specs.Record.{child}
-use Rattle.cards.specs.Kind.{kind-of}
+use Rattle.records.specs.declared.kind.Kind.{Kind}
+use Rattle.records.specs.declared.kind.Kind.the-variants.{Nothing, EmptyWord, Letter, Choice, Sequence, Repeat, Unknown}
+use Rattle.records.specs.declared.record.Record.{Record}
+use Rattle.records.specs.Record.{child}
+use Rattle.records.specs.Kind.{choice-kind, kind-of, columns}
+use Rattle.records.specs.Laws.Kind.{number, number-of-kind}
 use Rattle.cards.specs.Mark.{bit}
-use Rattle.cards.specs.Standing.{Line}
+use Rattle.cards.specs.Standing.{LineOf}
 use Rattle.cards.specs.Laws.Meaning.{pattern-of-record}
 use Rattle.store.specs.declared.making.Ruled.the-variants.{Gives}
-use Rattle.store.specs.Making.{placed, rule, choice-kind, members}
+use Rattle.store.specs.Making.{placed, rule, members}
 use Rattle.store.specs.Good.{Good, Set, member}
-use Rattle.store.specs.Laws.Rules.{make-given}
+use Rattle.store.specs.Laws.Rules.{make-given, choice-set}
+use Rattle.store.specs.Laws.Members.{set-at}
 use Rattle.store.specs.Laws.Meaning.{language-of-record}
 use Rattle.store.specs.Laws.Languages.{language-at, operator-over}
 
@@ -56,11 +60,15 @@ module _ {store : List Record} (g : Good store) (at : ℕ) (l : at < length stor
       g .once at 0 l (let two = g .some in omega arith)
       ((λ i. record { kind = k i; letter = a i; mark = mark i; fourth = g .obeys at l .fourth i; left = b i; right = c i }) ∙ sym (g .nothing))
 
+  -- The number of the record's kind.
+  numbered-as : {k : Kind} → kind-of (r .kind) ≡ k → r .kind ≡ number k
+  numbered-as e = number-of-kind (r .kind) (g .obeys at l .line .known) e
+
   -- The left child of a choice is a member, and nothing is none.
   choice-left : r .kind ≡ choice-kind → 0 < r .left
-  choice-left k = go (g .sets at l (eq-eqb (r .kind) choice-kind k) .set)
+  choice-left k = go (set-at choice-set g at l (eq-eqb (r .kind) choice-kind k) .set)
     where
-      go : Set store 0 (r .left ∷ members store (r .right)) → 0 < r .left
+      go : Set choice-kind store 0 (r .left ∷ members choice-kind store (r .right)) → 0 < r .left
       go (member h _ _ _) = h
 
   -- A word of the operator's language is one of the place's.
@@ -68,16 +76,17 @@ module _ {store : List Record} (g : Good store) (at : ℕ) (l : at < length stor
       → operator-over (kind-of (r .kind)) (r .letter) (language-at store (r .left)) (language-at store (r .right)) w → WordAt store at
   from-operator w b h = record { word = w; bytes = b; holds = language-of-record g at l .from w b h }
 
-  some-here : 0 < at → ((i : ℕ) → 0 < i → i < at → WordAt store i) → Line at (child store at) → WordAt store at
-  some-here pos lower (Line.nothing k a b c) = absurd (let z = nothing-at-0 k a b c in omega arith)
-  some-here pos lower (Line.empty-word k _ _ _) = from-operator [] none (rw k refl)
-  some-here pos lower (Line.letter k _ _) = from-operator (r .letter ∷ []) (one (g .letter at l) none) (rw k refl)
-  some-here pos lower (Line.choice k _ m n) =
-      let first = lower (r .left) (choice-left k) m in
+  -- By kind, with the line of the kind.
+  some-here : 0 < at → ((i : ℕ) → 0 < i → i < at → WordAt store i) → (k : Kind) → kind-of (r .kind) ≡ k → LineOf (columns k) at r → WordAt store at
+  some-here pos lower Nothing k o = absurd (let z = nothing-at-0 (numbered-as k) (o .letter) (o .left) (o .right) in omega arith)
+  some-here pos lower EmptyWord k o = from-operator [] none (rw k refl)
+  some-here pos lower Letter k o = from-operator (r .letter ∷ []) (one (g .letter at l) none) (rw k refl)
+  some-here pos lower Choice k o =
+      let first = lower (r .left) (choice-left (numbered-as k)) (o .left) in
       from-operator (first .word) (first .bytes) (rw k (inl (first .holds)))
-  some-here pos lower (Line.sequence k _ m n) =
-      let first = lower (r .left) (left-above (decLt 0 (r .left))) m in
-      let second = lower (r .right) (right-above (decLt 0 (r .right))) n in
+  some-here pos lower Sequence k o =
+      let first = lower (r .left) (left-above (decLt 0 (r .left))) (o .left) in
+      let second = lower (r .right) (right-above (decLt 0 (r .right))) (o .right) in
       from-operator (first .word ++ second .word) (over-join (first .bytes) (second .bytes))
       (rw k (record { front = first .word; back = second .word; joined = refl; in-front = first .holds; in-back = second .holds }))
     where
@@ -94,12 +103,13 @@ module _ {store : List Record} (g : Good store) (at : ℕ) (l : at < length stor
           let z : r .right ≡ 0 = omega arith in
           let e = no-rule {place = 0} (rw (k, z, or-true (eqb (r .left) 0)) refl) in
           absurd (omega arith)
-  some-here pos lower (Line.repeat k _ m _) = from-operator [] none (rw k (record { times = 0; in-power = refl }))
+  some-here pos lower Repeat k o = from-operator [] none (rw k (record { times = 0; in-power = refl }))
+  some-here pos lower Unknown k o = absurd (false≢true (o .known))
 
 some-below : {store : List Record} → Good store → (n at : ℕ) → at < n → at < length store → 0 < at → WordAt store at
 some-below g zero at b l pos = absurd (omega arith)
-some-below g (suc n) at b l pos =
-    some-here g at l pos (λ i q m. some-below g n i (omega arith) (omega arith) q) (g .obeys at l .line)
+some-below {store} g (suc n) at b l pos =
+    some-here g at l pos (λ i q m. some-below g n i (omega arith) (omega arith) q) (kind-of (child store at .kind)) refl (g .obeys at l .line)
 
 -- Every place above 0 has a word.
 pub some-word : {store : List Record} → Good store → (at : ℕ) → 0 < at → at < length store → WordAt store at

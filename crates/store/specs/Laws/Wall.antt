@@ -11,11 +11,12 @@ use mathlib.Core.List.{List, [], _++_, append-assoc, append-nil}
 use mathlib.Core.Path.{_≡_, refl, sym, _∙_, ap}
 use lib.ListN.{length, length-append}
 use Rattle.language.specs.Language.{Equal}
-use Rattle.cards.specs.declared.record.Record.{Record}
-use Rattle.cards.specs.Kind.{kind-of}
+use Rattle.records.specs.declared.record.Record.{Record}
+use Rattle.records.specs.Kind.{kind-of}
 use Rattle.cards.specs.Standing.{Line}
 use Rattle.store.specs.Making.{Making, placed, full, new-record, make}
-use Rattle.store.specs.Good.{Good, most-places}
+use Rattle.store.specs.Good.{Good}
+use Rattle.refusals.specs.Limits.{most-places}
 use Rattle.store.specs.Laws.Languages.{language-at, operator-over, language-kept}
 
 -- The second store is the first with records added at the end.

@@ -7,11 +7,12 @@ use mathlib.Core.List.{List}
 use mathlib.Core.Path.{_≡_, refl, sym, _∙_, ap}
 use lib.ListN.{length}
 use borrow.Author.Needs.{needs}
-use Rattle.cards.specs.declared.examine.Standing.{Standing}
-use Rattle.cards.specs.declared.examine.Standing.the-variants.{Good, Refused}
-use Rattle.cards.specs.Record.{records, record-at}
-use Rattle.cards.specs.Examine.{_then_, record-standing, examined}
-use Rattle.cards.specs.Laws.Record.{record-at-place}
+use Rattle.refusals.specs.declared.Standing.{Standing}
+use Rattle.refusals.specs.declared.Standing.the-variants.{Good, Refused}
+use Rattle.records.specs.Record.{records, record-at}
+use Rattle.cards.specs.Examine.{record-standing, examined}
+use Rattle.refusals.specs.Order.{_then_}
+use Rattle.records.specs.Laws.Record.{record-at-place}
 use Rattle.cards.specs.Laws.Examine.{standing-from, standing-1, standing-start, standing-step, standing-end}
 use Rattle.cards.proofs.examine.examine.Statement.{statement}
 use Rattle.cards.proofs.examine.examine.Tie as tie

@@ -4,9 +4,9 @@ use mathlib.Core.Bool.{Bool, true, false, not}
 use mathlib.Core.List.{List}
 use mathlib.Core.Path.{_≡_}
 use borrow.Author.Needs.{needs}
-use Rattle.cards.specs.declared.examine.Standing.the-variants.{Good, Refused}
-use Rattle.cards.specs.declared.record.Record.{Record}
-use Rattle.cards.specs.Record.{records, record-at}
+use Rattle.refusals.specs.declared.Standing.the-variants.{Good, Refused}
+use Rattle.records.specs.declared.record.Record.{Record}
+use Rattle.records.specs.Record.{records, record-at}
 use Rattle.cards.specs.Examine.{obeys, mark-right, record-standing}
 use Rattle.cards.proofs.examine.examine_record.Statement.{statement}
 use Rattle.cards.proofs.examine.examine_record.Tie as tie

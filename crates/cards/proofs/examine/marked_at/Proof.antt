@@ -3,7 +3,7 @@ use borrow.Author.Needs.{needs}
 use Prim.Native.Nat.{_<_, _≤_, _/_}
 use native.Mathlib.Omega.{arith}
 use lib.ListN.{length}
-use Rattle.cards.specs.Laws.Record.{record-at-place, past-records}
+use Rattle.records.specs.Laws.Record.{record-at-place, past-records}
 use Rattle.cards.proofs.examine.marked_at.Statement.{statement}
 use Rattle.cards.proofs.examine.marked_at.Tie as tie
 

@@ -9,12 +9,12 @@ use mathlib.Core.Path.{_≡_, refl, sym, _∙_}
 use lib.ListN.{length, drop, drop-of-length-le}
 use lib.Seq.{drop-cons}
 use borrow.Author.Needs.{needs}
-use Rattle.cards.specs.declared.kind.Kind.{Kind}
-use Rattle.cards.specs.declared.record.Record.{Record}
-use Rattle.cards.specs.Record.{records, record-at, no-record}
-use Rattle.cards.specs.Kind.{kind-of}
+use Rattle.records.specs.declared.kind.Kind.{Kind}
+use Rattle.records.specs.declared.record.Record.{Record}
+use Rattle.records.specs.Record.{records, record-at, no-record}
+use Rattle.records.specs.Kind.{kind-of}
 use Rattle.cards.specs.Letters.{letter-of, mentions}
-use Rattle.cards.specs.Laws.Record.{record-at-place, length-records}
+use Rattle.records.specs.Laws.Record.{record-at-place, length-records}
 use Rattle.cards.proofs.letters.mentions.Statement.{statement}
 use Rattle.cards.proofs.letters.mentions.Tie as tie
 

@@ -11,11 +11,11 @@ use Rattle.checking.proofs.checking.check_letters.Statement.{statement}
 use Rattle.checking.proofs.checking.check_letters.Tie as tie
 
 abbrev Inv-loop : tie.InvT-loop
-Inv-loop room₀ places list map letters n x y budget taken₀ left₀ at₀ room taken left at =
+Inv-loop room₀ places list map letters n x y budget given taken₀ left₀ at₀ room taken left at =
     ByLetters (mapped-list map list) n x y letters room₀ places budget room taken left at
 
 abbrev μ-loop : tie.MeasureT-loop
-μ-loop room₀ places list map letters n x y budget taken₀ left₀ at₀ room taken left at = length letters - at
+μ-loop room₀ places list map letters n x y budget given taken₀ left₀ at₀ room taken left at = length letters - at
 
 loop-holds : tie.Need-loop-holds Inv-loop μ-loop
 loop-holds c =
@@ -30,7 +30,9 @@ check-letter-requires : tie.Need-check-letter-requires Inv-loop μ-loop
 check-letter-requires c κs =
     let s = c .before .before .before .before .before .before .before .before in
     let u = c .before .before .before .loop .inv .stood in
-    (good-now u, (s .pre .1 .0 .named, both-inside u (s .pre .1 .1)))
+    let l = u .leaves .spent in
+    let m = s .pre .1 .1 .1 in
+    (good-now u, (s .pre .1 .0 .named, (both-inside u (s .pre .1 .1 .0), omega arith)))
 
 enum-known-passed : tie.Need-enum-known-passed Inv-loop μ-loop
 enum-known-passed c = search needs

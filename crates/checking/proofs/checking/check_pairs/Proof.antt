@@ -27,7 +27,8 @@ check-pair-requires : tie.Need-check-pair-requires Inv-loop μ-loop
 check-pair-requires c κs =
     let s = c .before .before .before .before .before .before .before in
     let u = c .before .before .loop .inv .stood in
-    (good-now u, (mapped-now u (s .pre .1), omega arith))
+    let l = u .leaves .spent in
+    (good-now u, (mapped-now u (s .pre .1), (omega arith, omega arith)))
 
 enum-known-passed : tie.Need-enum-known-passed Inv-loop μ-loop
 enum-known-passed c = search needs
@@ -60,6 +61,9 @@ loop-again c =
     pair-passed (a .letters .now) (mapped-list (a .map .now) (a .list .now)) (l .loop .inv) (omega (arith, length-listed (a .map .now) (a .list .now)))
     (c .before .before .before .before .before .check-pair .ensures) (c .before .passed .given .1)
 
+sub-visits : tie.Need-sub-visits Inv-loop μ-loop
+sub-visits c = c .before .loop .inv .stood .leaves .spent
+
 same-length-2 : tie.Need-same-length-2 Inv-loop μ-loop
 same-length-2 c = room-as-long (c .before .loop .inv .stood)
 
@@ -83,5 +87,6 @@ check-pairs-spec =
     add-n
     loop-less
     loop-again
+    sub-visits
     same-length-2
     returns-2)

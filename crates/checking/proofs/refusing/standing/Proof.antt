@@ -6,7 +6,8 @@ use mathlib.Core.Path.{_≡_, sym, _∙_}
 use lib.ListN.{length}
 use borrow.Author.Tests.{not-true, not-false}
 use borrow.Author.Needs.{needs}
-use Rattle.cards.specs.declared.examine.Standing.the-variants.{Good, Refused}
+use Rattle.refusals.specs.declared.Standing.the-variants.{Good, Refused}
+use Rattle.refusals.specs.Numbers.{work-room-size, pair-room-size, pair-names-no-record}
 use Rattle.cards.specs.Examine.{pattern-card, proof-card}
 use Rattle.store.specs.Room.{wrong-room}
 use Rattle.pairs.specs.Room.{wrong-pair-room, listed-pairs}
@@ -37,18 +38,18 @@ record Cards (left right proof : List ℕ) : Type 0 where
   proof-good : proof-card proof ≡ Good
 
 module _ {left right proof : List ℕ} (list : List ℕ) (work : ℕ) (cards : Cards left right proof) where
-  told-5 : wrong-room work ≡ true → Refused 5 ≡ check-standing left right proof list work
+  told-room : wrong-room work ≡ true → Refused work-room-size ≡ check-standing left right proof list work
   unfolding check-standing
-  told-5 e = rw (cards .left-good, cards .right-good, cards .proof-good, e)
+  told-room e = rw (cards .left-good, cards .right-good, cards .proof-good, e)
 
-  told-6 : wrong-room work ≡ false → wrong-pair-room (length list) ≡ true → Refused 6 ≡ check-standing left right proof list work
+  told-list : wrong-room work ≡ false → wrong-pair-room (length list) ≡ true → Refused pair-room-size ≡ check-standing left right proof list work
   unfolding check-standing
-  told-6 e f = rw (cards .left-good, cards .right-good, cards .proof-good, e, f)
+  told-list e f = rw (cards .left-good, cards .right-good, cards .proof-good, e, f)
 
-  told-11 : wrong-room work ≡ false → wrong-pair-room (length list) ≡ false → all-named (length proof / 8) (listed-pairs list) ≡ false
-      → Refused 11 ≡ check-standing left right proof list work
+  told-unnamed : wrong-room work ≡ false → wrong-pair-room (length list) ≡ false → all-named (length proof / 8) (listed-pairs list) ≡ false
+      → Refused pair-names-no-record ≡ check-standing left right proof list work
   unfolding check-standing
-  told-11 e f g = rw (cards .left-good, cards .right-good, cards .proof-good, e, f, g)
+  told-unnamed e f g = rw (cards .left-good, cards .right-good, cards .proof-good, e, f, g)
 
   told-good : wrong-room work ≡ false → wrong-pair-room (length list) ≡ false → all-named (length proof / 8) (listed-pairs list) ≡ true
       → Good ≡ check-standing left right proof list work
@@ -124,7 +125,7 @@ returns-4 : tie.Need-returns-4
 returns-4 c =
     let t = c .before .before in
     let a = t .before .before .before .before .before .before .before .before .before .before .before .before .before .args in
-    told-5 (a .list .now) (a .work) (cards-good t) (sym (c .before .wrong-room .ensures) ∙ c .if1 .taken)
+    told-room (a .list .now) (a .work) (cards-good t) (sym (c .before .wrong-room .ensures) ∙ c .if1 .taken)
 
 wrong-pair-room-requires : tie.Need-wrong-pair-room-requires
 wrong-pair-room-requires c κs = search needs
@@ -133,7 +134,7 @@ returns-5 : tie.Need-returns-5
 returns-5 c =
     let t = c .before .before .before .before in
     let a = t .before .before .before .before .before .before .before .before .before .before .before .before .before .args in
-    told-6 (a .list .now) (a .work) (cards-good t)
+    told-list (a .list .now) (a .work) (cards-good t)
     (sym (c .before .before .before .wrong-room .ensures) ∙ c .before .before .if1 .left)
     (sym (c .before .wrong-pair-room .ensures) ∙ c .if2 .taken)
 
@@ -144,7 +145,7 @@ returns-6 : tie.Need-returns-6
 returns-6 c =
     let t = c .before .before .before .before .before .before in
     let a = t .before .before .before .before .before .before .before .before .before .before .before .before .before .args in
-    told-11 (a .list .now) (a .work) (cards-good t)
+    told-unnamed (a .list .now) (a .work) (cards-good t)
     (sym (c .before .before .before .before .before .wrong-room .ensures) ∙ c .before .before .before .before .if1 .left)
     (sym (c .before .before .before .wrong-pair-room .ensures) ∙ c .before .before .if2 .left)
     (sym (c .before .all-named .ensures) ∙ not-true (c .before .all-named .result) (c .if3 .taken))

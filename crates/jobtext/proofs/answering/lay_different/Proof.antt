@@ -1,10 +1,11 @@
--- `lay_different` lays down the verdict, the word's line, the side's and the three counts, one behind the other; a word of at most 1,024 bytes has at
--- most 2,048 digits.
+-- `lay_different` lays down the verdict, the word's line, the side's and the three counts, one behind the other; a word that the word room holds has two
+-- digits for each byte of it.
 use native.Mathlib.Omega.{arith}
 use borrow.Author.Needs.{needs}
-use Rattle.jobtext.specs.Ascii.{ascii}
+use Rattle.text.specs.Ascii.{ascii}
 use Rattle.jobtext.specs.Answer.{different-text}
-use Rattle.jobtext.specs.Laws.Writing.{put-both, lays, line-length, hex-line-length}
+use Rattle.text.specs.Laws.Writing.{put-both, line-length, hex-line-length}
+use Rattle.jobtext.specs.Laws.Answering.{lays}
 use Rattle.jobtext.proofs.answering.lay_different.Statement.{statement}
 use Rattle.jobtext.proofs.answering.lay_different.Tie as tie
 

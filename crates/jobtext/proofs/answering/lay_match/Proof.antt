@@ -1,7 +1,8 @@
 -- `lay_match` lays down the verdict's line, then the two counts.
 use native.Mathlib.Omega.{arith}
 use borrow.Author.Needs.{needs}
-use Rattle.jobtext.specs.Laws.Writing.{put-both, lays}
+use Rattle.text.specs.Laws.Writing.{put-both}
+use Rattle.jobtext.specs.Laws.Answering.{lays}
 use Rattle.jobtext.proofs.answering.lay_match.Statement.{statement}
 use Rattle.jobtext.proofs.answering.lay_match.Tie as tie
 

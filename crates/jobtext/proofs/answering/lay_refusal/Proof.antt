@@ -1,9 +1,10 @@
 -- `lay_refusal` lays down the verdict, then the number's line.
 use native.Mathlib.Omega.{arith}
 use borrow.Author.Needs.{needs}
-use Rattle.jobtext.specs.Ascii.{ascii}
+use Rattle.text.specs.Ascii.{ascii}
 use Rattle.jobtext.specs.Answer.{refused-text}
-use Rattle.jobtext.specs.Laws.Writing.{put-both, lays}
+use Rattle.text.specs.Laws.Writing.{put-both}
+use Rattle.jobtext.specs.Laws.Answering.{lays}
 use Rattle.jobtext.proofs.answering.lay_refusal.Statement.{statement}
 use Rattle.jobtext.proofs.answering.lay_refusal.Tie as tie
 

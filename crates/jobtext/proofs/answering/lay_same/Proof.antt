@@ -1,9 +1,10 @@
 -- `lay_same` lays down the verdict's line, then the three counts.
 use native.Mathlib.Omega.{arith}
 use borrow.Author.Needs.{needs}
-use Rattle.jobtext.specs.Ascii.{ascii}
+use Rattle.text.specs.Ascii.{ascii}
 use Rattle.jobtext.specs.Answer.{same-text}
-use Rattle.jobtext.specs.Laws.Writing.{put-both, lays}
+use Rattle.text.specs.Laws.Writing.{put-both}
+use Rattle.jobtext.specs.Laws.Answering.{lays}
 use Rattle.jobtext.proofs.answering.lay_same.Statement.{statement}
 use Rattle.jobtext.proofs.answering.lay_same.Tie as tie
 

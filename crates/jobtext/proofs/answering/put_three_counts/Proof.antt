@@ -1,9 +1,9 @@
 -- `put_three_counts` lays down the pairs' line, then the other two.
 use native.Mathlib.Omega.{arith}
 use borrow.Author.Needs.{needs}
-use Rattle.jobtext.specs.Ascii.{ascii}
+use Rattle.text.specs.Ascii.{ascii}
 use Rattle.jobtext.specs.Answer.{three-counts}
-use Rattle.jobtext.specs.Laws.Writing.{put-both}
+use Rattle.text.specs.Laws.Writing.{put-both}
 use Rattle.jobtext.proofs.answering.put_three_counts.Statement.{statement}
 use Rattle.jobtext.proofs.answering.put_three_counts.Tie as tie
 

@@ -1,9 +1,9 @@
 -- `put_two_counts` lays down one line behind the other.
 use native.Mathlib.Omega.{arith}
 use borrow.Author.Needs.{needs}
-use Rattle.jobtext.specs.Ascii.{ascii}
+use Rattle.text.specs.Ascii.{ascii}
 use Rattle.jobtext.specs.Answer.{two-counts}
-use Rattle.jobtext.specs.Laws.Writing.{put-both}
+use Rattle.text.specs.Laws.Writing.{put-both}
 use Rattle.jobtext.proofs.answering.put_two_counts.Statement.{statement}
 use Rattle.jobtext.proofs.answering.put_two_counts.Tie as tie
 

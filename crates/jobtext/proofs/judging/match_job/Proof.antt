@@ -1,13 +1,11 @@
 -- `match_job` lays down what `fits` tells: its one outcome in a room of the size that is lent.
+use native.Mathlib.Omega.{arith}
 use borrow.Author.Needs.{needs}
-use Rattle.judge.specs.declared.Match.the-variants.{Yes, No, Refused}
-use Rattle.jobtext.specs.Ascii.{ascii}
-use Rattle.jobtext.specs.Laws.Judging.{made-rooms, match-laid}
+use Rattle.answers.specs.declared.Match.the-variants.{Yes, No, Refused}
+use Rattle.text.specs.Ascii.{ascii}
+use Rattle.jobtext.specs.Laws.Judging.{match-laid}
 use Rattle.jobtext.proofs.judging.match_job.Statement.{statement}
 use Rattle.jobtext.proofs.judging.match_job.Tie as tie
-
-slice-aggregate-fits : tie.Need-slice-aggregate-fits
-slice-aggregate-fits c = search needs
 
 fits-requires : tie.Need-fits-requires
 fits-requires c κs = search needs
@@ -43,7 +41,7 @@ returns : tie.Need-returns
 unfolding ascii
 returns c =
     let a = c .before .before .before .before .before .before in
-    match-laid (a .before .before .before .fits2 .ensures) (made-rooms .work-size) (Yes _ _) (a .answer .given .1) (c .before .before .lay-match .ensures)
+    match-laid (a .before .before .fits2 .ensures) (omega arith) (Yes _ _) (a .answer .given .1) (c .before .before .lay-match .ensures)
 
 same-length-2 : tie.Need-same-length-2
 same-length-2 c = search needs
@@ -52,7 +50,7 @@ returns-2 : tie.Need-returns-2
 unfolding ascii
 returns-2 c =
     let a = c .before .before .before .before .before .before in
-    match-laid (a .before .before .before .fits2 .ensures) (made-rooms .work-size) (No _ _) (a .answer2 .given .1) (c .before .before .lay-match2 .ensures)
+    match-laid (a .before .before .fits2 .ensures) (omega arith) (No _ _) (a .answer2 .given .1) (c .before .before .lay-match2 .ensures)
 
 same-length-3 : tie.Need-same-length-3
 same-length-3 c = search needs
@@ -60,13 +58,12 @@ same-length-3 c = search needs
 returns-3 : tie.Need-returns-3
 returns-3 c =
     let a = c .before .before .before .before .before in
-    match-laid (a .before .before .before .fits2 .ensures) (made-rooms .work-size) (Refused _ _ _) (a .answer3 .given .1) (c .before .before .lay-refusal .ensures)
+    match-laid (a .before .before .fits2 .ensures) (omega arith) (Refused _ _ _) (a .answer3 .given .1) (c .before .before .lay-refusal .ensures)
 
 pub match-job-spec : {M : Type 1} → statement M
 match-job-spec =
     tie.close
     (tie.spec
-    slice-aggregate-fits
     fits-requires
     enum-known-answer
     slice-aggregate-lay-match

@@ -1,36 +1,34 @@
--- `lines::printing::hex` is safe and ends: `put` keeps inside the block by itself, and each turn leaves one byte less.
+-- `lines::printing::hex` is safe and ends: `block_end` tells a later place, and none past the last byte.
 use Prim.Native.Nat.{_-_}
 use native.Mathlib.Omega.{arith}
+use borrow.Author.Needs.{needs}
 use lib.ListN.{length}
 use Rattle.lines.proofs.printing.hex.Statement.{statement}
 use Rattle.lines.proofs.printing.hex.Tie as tie
 
 abbrev Inv-loop : tie.InvT-loop
-Inv-loop shown block₀ put₀ at₀ block put at = Unit {0}
+Inv-loop shown at₀ at = Unit {0}
 
 abbrev μ-loop : tie.MeasureT-loop
-μ-loop shown block₀ put₀ at₀ block put at = length shown - at
+μ-loop shown at₀ at = length shown - at
 
 loop-holds : tie.Need-loop-holds Inv-loop μ-loop
 loop-holds c = tt
 
-shared-slice-read-put : tie.Need-shared-slice-read-put Inv-loop μ-loop
-shared-slice-read-put c = omega arith
+block-end-requires : tie.Need-block-end-requires Inv-loop μ-loop
+block-end-requires c κs = search needs
 
-put-requires : tie.Need-put-requires Inv-loop μ-loop
-put-requires c κs = tt
+part-requires : tie.Need-part-requires Inv-loop μ-loop
+part-requires c κs = tt
 
-add-at : tie.Need-add-at Inv-loop μ-loop
-add-at c = omega arith
+block-requires : tie.Need-block-requires Inv-loop μ-loop
+block-requires c κs = tt
 
 loop-less : tie.Need-loop-less Inv-loop μ-loop
-loop-less c = omega arith
+loop-less c = search needs
 
 loop-again : tie.Need-loop-again Inv-loop μ-loop
 loop-again c = tt
-
-write-requires : tie.Need-write-requires Inv-loop μ-loop
-write-requires c κs = tt
 
 returns : tie.Need-returns Inv-loop μ-loop
 returns c = tt
@@ -42,10 +40,9 @@ hex-spec =
     Inv-loop
     μ-loop
     loop-holds
-    shared-slice-read-put
-    put-requires
-    add-at
+    block-end-requires
+    part-requires
+    block-requires
     loop-less
     loop-again
-    write-requires
     returns)

@@ -5,11 +5,13 @@ use mathlib.Core.List.{List}
 use mathlib.Core.Path.{_≡_, sym, _∙_}
 use borrow.Author.Tests.{lt-ltb, le-ltb}
 use borrow.Author.Needs.{needs}
-use Rattle.cards.specs.declared.examine.Standing.{Standing}
-use Rattle.cards.specs.declared.examine.Standing.the-variants.{Good, Refused}
+use Rattle.refusals.specs.declared.Standing.{Standing}
+use Rattle.refusals.specs.declared.Standing.the-variants.{Good, Refused}
+use Rattle.refusals.specs.Numbers.{long-word, work-room-size}
+use Rattle.refusals.specs.Limits.{most-word}
 use Rattle.cards.specs.Examine.{pattern-card}
 use Rattle.store.specs.Room.{wrong-room}
-use Rattle.matching.specs.Refusals.{most-word, standing-of}
+use Rattle.matching.specs.Refusals.{standing-of}
 use Rattle.matching.proofs.refusing.standing.Statement.{statement}
 use Rattle.matching.proofs.refusing.standing.Tie as tie
 
@@ -24,13 +26,13 @@ module _ (card : List ℕ) (word room : ℕ) {found : Standing} (is : found ≡ 
     good : pattern-card card ≡ Good
     good = sym is ∙ e
 
-    told-4 : most-word < word → Refused 4 ≡ standing-of card word room
+    told-long : most-word < word → Refused long-word ≡ standing-of card word room
     unfolding standing-of
-    told-4 t = rw (good, lt-ltb most-word word t)
+    told-long t = rw (good, lt-ltb most-word word t)
 
-    told-5 : word ≤ most-word → {wrong : Bool} → wrong ≡ wrong-room room → wrong ≡ true → Refused 5 ≡ standing-of card word room
+    told-room : word ≤ most-word → {wrong : Bool} → wrong ≡ wrong-room room → wrong ≡ true → Refused work-room-size ≡ standing-of card word room
     unfolding standing-of
-    told-5 t w u = rw (good, le-ltb most-word word t, sym w ∙ u)
+    told-room t w u = rw (good, le-ltb most-word word t, sym w ∙ u)
 
     told-good : word ≤ most-word → {wrong : Bool} → wrong ≡ wrong-room room → wrong ≡ false → Good ≡ standing-of card word room
     unfolding standing-of
@@ -53,7 +55,7 @@ enum-told c = search needs
 returns-2 : tie.Need-returns-2
 returns-2 c =
     let a = c .before .before .before .before .before .args in
-    told-4 (a .card .now) (a .word) (a .room) (c .before .before .before .examine-pattern .ensures) (c .before .enum-told .given .1) (c .if1 .taken)
+    told-long (a .card .now) (a .word) (a .room) (c .before .before .before .examine-pattern .ensures) (c .before .enum-told .given .1) (c .if1 .taken)
 
 wrong-room-requires : tie.Need-wrong-room-requires
 wrong-room-requires c κs = search needs
@@ -61,7 +63,7 @@ wrong-room-requires c κs = search needs
 returns-3 : tie.Need-returns-3
 returns-3 c =
     let a = c .before .before .before .before .before .before .before .args in
-    told-5 (a .card .now) (a .word) (a .room) (c .before .before .before .before .before .examine-pattern .ensures)
+    told-room (a .card .now) (a .word) (a .room) (c .before .before .before .before .before .examine-pattern .ensures)
     (c .before .before .before .enum-told .given .1)
     (c .before .before .if1 .left)
     (c .before .wrong-room .ensures)

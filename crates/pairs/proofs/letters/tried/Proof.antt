@@ -5,7 +5,8 @@ use native.Mathlib.Omega.{arith}
 use mathlib.Core.Logic.{⊎-elim}
 use mathlib.Core.Path.{sym, _∙_}
 use borrow.Author.Needs.{needs}
-use Rattle.pairs.specs.Tried.{most-letters, mentioned}
+use Rattle.pairs.specs.Tried.{mentioned}
+use Rattle.refusals.specs.Limits.{most-letters}
 use Rattle.pairs.specs.Laws.Tried.{Written, none-written, room-for-one, one-written, one-passed, all-written}
 use Rattle.pairs.proofs.letters.tried.Statement.{statement}
 use Rattle.pairs.proofs.letters.tried.Tie as tie

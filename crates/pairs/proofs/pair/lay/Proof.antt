@@ -1,4 +1,4 @@
--- `lay` stores the 8 bytes one by one from the start, which is those bytes put before the rest.
+-- `lay` stores the 8 bytes from the start, a number's two at once, which is those bytes put before the rest.
 use native.Mathlib.Omega.{arith}
 use lib.ListN.{length-set}
 use lib.Seq.{sets-eq}
@@ -7,73 +7,41 @@ use Rattle.pairs.specs.Pair.{bytes-of-pair}
 use Rattle.pairs.proofs.pair.lay.Statement.{statement}
 use Rattle.pairs.proofs.pair.lay.Tie as tie
 
-cast-part : tie.Need-cast-part
-cast-part c = search needs
+lay-two-requires : tie.Need-lay-two-requires
+lay-two-requires c κs = search needs
+
+lay-two-requires-2 : tie.Need-lay-two-requires-2
+lay-two-requires-2 c κs = search needs
+
+lay-two-requires-3 : tie.Need-lay-two-requires-3
+lay-two-requires-3 c κs = search needs
 
 slice-write-part : tie.Need-slice-write-part
 slice-write-part c = search needs
 
-cast-part-2 : tie.Need-cast-part-2
-cast-part-2 c = search needs
-
 slice-write-part-2 : tie.Need-slice-write-part-2
 slice-write-part-2 c = simp length-set (omega arith)
 
-cast-part-3 : tie.Need-cast-part-3
-cast-part-3 c = search needs
-
-slice-write-part-3 : tie.Need-slice-write-part-3
-slice-write-part-3 c = simp length-set (omega arith)
-
-cast-part-4 : tie.Need-cast-part-4
-cast-part-4 c = search needs
-
-slice-write-part-4 : tie.Need-slice-write-part-4
-slice-write-part-4 c = simp length-set (omega arith)
-
-cast-part-5 : tie.Need-cast-part-5
-cast-part-5 c = search needs
-
-slice-write-part-5 : tie.Need-slice-write-part-5
-slice-write-part-5 c = simp length-set (omega arith)
-
-cast-part-6 : tie.Need-cast-part-6
-cast-part-6 c = search needs
-
-slice-write-part-6 : tie.Need-slice-write-part-6
-slice-write-part-6 c = simp length-set (omega arith)
-
-slice-write-part-7 : tie.Need-slice-write-part-7
-slice-write-part-7 c = simp length-set (omega arith)
-
-slice-write-part-8 : tie.Need-slice-write-part-8
-slice-write-part-8 c = simp length-set (omega arith)
-
 same-length : tie.Need-same-length
-same-length c = search needs
+same-length c = simp length-set (omega arith)
 
 returns : tie.Need-returns
 returns c =
-    let a = c .before .before .before .before .before .before .args in
-    sets-eq (bytes-of-pair (a .p)) (a .part .now) 0 (omega arith)
+    let third = c .before .before in
+    let second = third .before .before .before .before in
+    let first = second .before .before .before .before in
+    let a = first .before .before .before .args in
+    rw (third .lay-two3 .ensures, second .lay-two2 .ensures, first .lay-two .ensures)
+    (sets-eq (bytes-of-pair (a .p)) (a .part .now) 0 (omega arith))
 
 pub lay-spec : {M : Type 1} → statement M
 lay-spec =
     tie.close
     (tie.spec
-    cast-part
+    lay-two-requires
+    lay-two-requires-2
+    lay-two-requires-3
     slice-write-part
-    cast-part-2
     slice-write-part-2
-    cast-part-3
-    slice-write-part-3
-    cast-part-4
-    slice-write-part-4
-    cast-part-5
-    slice-write-part-5
-    cast-part-6
-    slice-write-part-6
-    slice-write-part-7
-    slice-write-part-8
     same-length
     returns)

@@ -9,7 +9,7 @@ use borrow.Author.Count.{below-more}
 use borrow.Author.Needs.{needs}
 use Rattle.language.specs.Word.{Bytes}
 use Rattle.language.specs.Laws.Words.{bytes-all}
-use Rattle.cards.specs.Laws.Record.{bytes-drop}
+use Rattle.runs.specs.Laws.Bytes.{bytes-drop}
 use Rattle.pairs.specs.declared.pair.Pair.{Pair}
 use Rattle.pairs.specs.Pair.{places-of-pair, pair-record, stands-in, StandsAt}
 use Rattle.pairs.specs.Room.{table-in}

@@ -13,10 +13,10 @@ use borrow.Author.Count.{below-more}
 use borrow.Author.Needs.{needs}
 use borrow.Author.Tests.{eqb-true, eq-eqb}
 use Rattle.language.specs.Word.{Bytes}
-use Rattle.cards.specs.declared.record.Record.{Record}
-use Rattle.cards.specs.Record.{record-at, number-of, no-record}
+use Rattle.records.specs.declared.record.Record.{Record}
+use Rattle.records.specs.Record.{record-at, number-of, no-record}
 use Rattle.cards.specs.Standing.{Obeys}
-use Rattle.cards.specs.Laws.Record.{Fitting, number-one, fitting-of, bytes-drop, length-first}
+use Rattle.records.specs.Laws.Record.{Fitting, number-one, fitting-of, bytes-drop, length-first}
 use Rattle.store.specs.declared.finding.Found.the-variants.{At, Absent}
 use Rattle.store.specs.Room.{store-in}
 use Rattle.store.specs.Making.{identical, find-from, find}

@@ -1,22 +1,23 @@
 -- `make` answers as the definition does: by the rule's place where the rule gives one, by using or writing the new record where it stays
--- one, and by the choice of two sets where they are merged.
+-- one, and by the set of both where two are merged.
 use Prim.Native.Nat.{ℕ}
 use mathlib.Core.List.{List}
 use mathlib.Core.Path.{_≡_, sym, _∙_, ap}
 use borrow.Author.Needs.{needs}
-use Rattle.cards.specs.declared.kind.Kind.{Kind}
-use Rattle.cards.specs.declared.record.Record.{Record}
-use Rattle.cards.specs.Kind.{kind-of}
-use Rattle.cards.specs.Laws.Record.{length-first}
-use Rattle.store.specs.declared.making.Made.{Made}
-use Rattle.store.specs.declared.making.Made.the-variants.{Placed}
+use Rattle.records.specs.declared.kind.Kind.{Kind}
+use Rattle.records.specs.declared.record.Record.{Record}
+use Rattle.records.specs.Kind.{kind-of}
+use Rattle.records.specs.Laws.Record.{length-first}
+use Rattle.store.specs.declared.interning.Made.{Made}
+use Rattle.store.specs.declared.interning.Made.the-variants.{Placed}
 use Rattle.store.specs.declared.making.Ruled.{Ruled}
 use Rattle.store.specs.declared.making.Ruled.the-variants.{Gives, Stays, Merges}
 use Rattle.store.specs.Room.{store-in, places-of, laid}
-use Rattle.store.specs.Making.{rule, new-record, by-rule, intern, choice, make, after}
+use Rattle.store.specs.Making.{rule, new-record, by-rule, intern, set-of-both, make, after}
 use Rattle.store.specs.Told.{told-making}
-use Rattle.store.specs.Good.{GoodStore}
+use Rattle.store.specs.Good.{SetKind, GoodStore}
 use Rattle.store.specs.Laws.Room.{laid-same}
+use Rattle.store.specs.Laws.Rules.{merged-kind}
 use Rattle.store.proofs.making.make.Statement.{statement}
 use Rattle.store.proofs.making.make.Tie as tie
 
@@ -45,11 +46,14 @@ module _ (room : List ℕ) (places kind letter left right : ℕ) {k : Kind} (is 
   told-interned f g m w = rw (by-ruled f, ← g) (m, w)
 
   told-merged : ruled ≡ Merges
-      → {made : Made} → made ≡ told-making (choice (places-of room) (store-in room places) left right)
-      → {exit : List ℕ} → exit ≡ laid (after (choice (places-of room) (store-in room places) left right)) room
+      → {made : Made} → made ≡ told-making (set-of-both (places-of room) kind (store-in room places) left right)
+      → {exit : List ℕ} → exit ≡ laid (after (set-of-both (places-of room) kind (store-in room places) left right)) room
       → (made ≡ told-making (make (places-of room) (store-in room places) kind letter left right))
       × (exit ≡ laid (after (make (places-of room) (store-in room places) kind letter left right)) room)
   told-merged f m w = rw (by-ruled f) (m, w)
+
+  merges-sets : ruled ≡ Merges → SetKind kind
+  merges-sets f = merged-kind kind left right (ap (λ (k : Kind). rule k left right) (sym is) ∙ sym e ∙ f)
 
 named-requires : tie.Need-named-requires
 named-requires c κs = search needs
@@ -72,8 +76,18 @@ intern-requires c κs = search needs
 enum-told-2 : tie.Need-enum-told-2
 enum-told-2 c = search needs
 
-choice-requires : tie.Need-choice-requires
-choice-requires c κs = search needs
+set-of-both-requires : tie.Need-set-of-both-requires
+set-of-both-requires c κs =
+    let s = c .before .before .before .before .before .before in (
+      s .pre .0,
+      (
+        s .pre .1,
+        merges-sets (s .args .room .now) (s .args .places) (s .args .kind) (s .args .letter) (s .args .left) (s .args .right)
+            (c .before .before .before .before .named .ensures)
+            (c .before .before .before .rule .ensures)
+            (c .before .enum-told2 .given .1),
+      ),
+    )
 
 returns : tie.Need-returns
 returns c =
@@ -108,8 +122,8 @@ returns-3 c =
     (c .before .before .before .before .before .before .before .named .ensures)
     (c .before .before .before .before .before .before .rule .ensures)
     (c .before .before .before .before .enum-told2 .given .1)
-    (c .before .before .choice .ensures .0)
-    (c .before .before .choice .ensures .1)
+    (c .before .before .set-of-both .ensures .0)
+    (c .before .before .set-of-both .ensures .1)
 
 pub make-spec : {M : Type 1} → statement M
 make-spec =
@@ -122,7 +136,7 @@ make-spec =
     new-record-requires
     intern-requires
     enum-told-2
-    choice-requires
+    set-of-both-requires
     returns
     same-length
     returns-2

@@ -5,22 +5,24 @@ use mathlib.Core.Path.{_≡_}
 use lib.Dec.{eqb}
 use borrow.Author.Tests.{eq-eqb, ne-eqb}
 use Rattle.store.specs.declared.making.Ruled.the-variants.{Gives, Stays}
-use Rattle.store.specs.Making.{sequence-rule}
+use Rattle.store.specs.Making.{nothing-place, empty-word-place, sequence-rule}
 use Rattle.store.proofs.making.sequence_rule.Statement.{statement}
 use Rattle.store.proofs.making.sequence_rule.Tie as tie
 
 module _ (left right : ℕ) where
-  told-nothing : eqb left 0 || eqb right 0 ≡ true → Gives 0 ≡ sequence-rule left right
+  told-nothing : eqb left nothing-place || eqb right nothing-place ≡ true → Gives nothing-place ≡ sequence-rule left right
   told-nothing t = rw t
 
-  told-right : eqb left 0 || eqb right 0 ≡ false → left ≡ 1 → Gives right ≡ sequence-rule left right
-  told-right t e = rw (t, eq-eqb left 1 e)
+  told-right : eqb left nothing-place || eqb right nothing-place ≡ false → left ≡ empty-word-place → Gives right ≡ sequence-rule left right
+  told-right t e = rw (t, eq-eqb left empty-word-place e)
 
-  told-left : eqb left 0 || eqb right 0 ≡ false → (left ≡ 1 → ⊥) → right ≡ 1 → Gives left ≡ sequence-rule left right
-  told-left t n e = rw (t, ne-eqb left 1 n, eq-eqb right 1 e)
+  told-left : eqb left nothing-place || eqb right nothing-place ≡ false → (left ≡ empty-word-place → ⊥) → right ≡ empty-word-place
+      → Gives left ≡ sequence-rule left right
+  told-left t n e = rw (t, ne-eqb left empty-word-place n, eq-eqb right empty-word-place e)
 
-  told-stays : eqb left 0 || eqb right 0 ≡ false → (left ≡ 1 → ⊥) → (right ≡ 1 → ⊥) → Stays ≡ sequence-rule left right
-  told-stays t n m = rw (t, ne-eqb left 1 n, ne-eqb right 1 m)
+  told-stays : eqb left nothing-place || eqb right nothing-place ≡ false → (left ≡ empty-word-place → ⊥) → (right ≡ empty-word-place → ⊥)
+      → Stays ≡ sequence-rule left right
+  told-stays t n m = rw (t, ne-eqb left empty-word-place n, ne-eqb right empty-word-place m)
 
 returns : tie.Need-returns
 returns c = told-nothing (c .before .args .left) (c .before .args .right) (c .if1 .taken)

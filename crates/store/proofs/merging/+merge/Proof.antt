@@ -1,4 +1,4 @@
--- `merge` answers as the definition does: where a set is used up by the other, and else by the lower first member put before the choice of
+-- `merge` answers as the definition does: where a set is used up by the other, and else by the lower first member put before the set of
 -- what is left of both. The measure is the sum of both places: what is behind a member stands lower.
 use Prim.Native.Nat.{ℕ, _+_, _<_}
 use native.Mathlib.Omega.{arith}
@@ -16,7 +16,7 @@ use Rattle.store.proofs.merging.+merge.{statement}
 use Rattle.store.proofs.merging.+merge.Tie.{close}
 
 abbrev μ-merge : Measures 1 merge-kinds.ps ℕ
-μ-merge κs a = a .1 .1 .0 .place + a .1 .1 .1 .0 .place
+μ-merge κs a = a .1 .1 .1 .0 .place + a .1 .1 .1 .1 .0 .place
 
 abbrev merge-at : ℕ → In 1 merge-kinds.ps
 merge-at t = and 1 merge-kinds.ps (is 1 merge-kinds.ps μ-merge t) merge.Pre
@@ -31,13 +31,13 @@ merge-claims t = (lower-reads.Asked, lower-reads.Learnt, past-reads.Asked, past-
 merge-returns : (t : ℕ) → merge-lts.Need-returns (merge-claims t) (merge-at t) merge.Post
 merge-returns t c =
     let s = c .before .before .before .before .before in
-    let u = tells-right (s .pre .1 .0) (s .args .left) (s .args .right) (s .pre .1 .1 .0) (c .if1 .taken) in
+    let u = tells-right (s .pre .1 .1 .1 .1 .1) (s .pre .1 .0) (s .args .left) (s .args .right) (s .pre .1 .1 .0) (c .if1 .taken) in
     (u .answers, u .leaves)
 
 merge-returns-2 : (t : ℕ) → merge-lts.Need-returns-2 (merge-claims t) (merge-at t) merge.Post
 merge-returns-2 t c =
     let s = c .before .before .before .before .before .before .before in
-    let u = tells-left (s .pre .1 .0) (s .args .left) (s .args .right) (s .pre .1 .1 .0) (c .if2 .taken) in
+    let u = tells-left (s .pre .1 .1 .1 .1 .1) (s .pre .1 .0) (s .args .left) (s .args .right) (s .pre .1 .1 .0) (c .if2 .taken) in
     (u .answers, u .leaves)
 
 merge-lower-requires : (t : ℕ) → merge-lts.Need-lower-requires (merge-claims t) (merge-at t) merge.Post
@@ -52,20 +52,20 @@ merge-past-requires-2 t c κs = search needs
 merge-merge-requires : (t : ℕ) → merge-lts.Need-merge-requires (merge-claims t) (merge-at t) merge.Post
 merge-merge-requires t c κs =
     let s = c .before .before .before .before .before .before .before .before .before .before .before .before .before in
-    let less = merge-falls (s .pre .1 .0) (s .args .left) (s .args .right) (s .pre .1 .1 .0)
+    let less = merge-falls (s .pre .1 .1 .1 .1 .1) (s .pre .1 .0) (s .args .left) (s .args .right) (s .pre .1 .1 .0)
     (c .before .before .before .before .before .before .before .before .if1 .left)
     (c .before .before .before .before .before .before .if2 .left)
-    (s .pre .1 .1 .1 .0) (s .pre .1 .1 .1 .1)
+    (s .pre .1 .1 .1 .0) (s .pre .1 .1 .1 .1 .0)
     (c .before .before .before .before .before .lower .ensures)
     (c .before .before .before .past .ensures)
     (c .before .past2 .ensures) in (
       omega (arith, less, s .pre .0),
       (
         s .pre .1 .0,
-        can-merge (s .pre .1 .0) (s .args .left) (s .args .right) (s .pre .1 .1 .0)
+        can-merge (s .pre .1 .1 .1 .1 .1) (s .pre .1 .0) (s .args .left) (s .args .right) (s .pre .1 .1 .0)
             (c .before .before .before .before .before .before .before .before .if1 .left)
             (c .before .before .before .before .before .before .if2 .left)
-            (s .pre .1 .1 .1 .0) (s .pre .1 .1 .1 .1)
+            (s .pre .1 .1 .1 .0) (s .pre .1 .1 .1 .1 .0)
             (c .before .before .before .before .before .lower .ensures)
             (c .before .before .before .past .ensures)
             (c .before .past2 .ensures),
@@ -78,10 +78,10 @@ merge-enum-known-rest t c = search needs
 merge-put-before-requires : (t : ℕ) → merge-lts.Need-put-before-requires (merge-claims t) (merge-at t) merge.Post
 merge-put-before-requires t c κs =
     let s = c .before .before .before .before .before .before .before .before .before .before .before .before .before .before .before .before .before .before .before .before in
-    can-put (s .pre .1 .0) (s .args .left) (s .args .right) (s .pre .1 .1 .0)
+    can-put (s .pre .1 .1 .1 .1 .1) (s .pre .1 .0) (s .args .left) (s .args .right) (s .pre .1 .1 .0)
     (c .before .before .before .before .before .before .before .before .before .before .before .before .before .before .before .if1 .left)
     (c .before .before .before .before .before .before .before .before .before .before .before .before .before .if2 .left)
-    (s .pre .1 .1 .1 .0) (s .pre .1 .1 .1 .1)
+    (s .pre .1 .1 .1 .0) (s .pre .1 .1 .1 .1 .0)
     (c .before .before .before .before .before .before .before .before .before .before .before .before .lower .ensures)
     (c .before .before .before .before .before .before .before .before .before .before .past .ensures)
     (c .before .before .before .before .before .before .before .before .past2 .ensures)
@@ -97,10 +97,10 @@ merge-same-length t c = search needs
 merge-returns-3 : (t : ℕ) → merge-lts.Need-returns-3 (merge-claims t) (merge-at t) merge.Post
 merge-returns-3 t c =
     let s = c .before .before .before .before .before .before .before .before .before .before .before .before .before .before .before .before .before .before .before .before .before .before .before in
-    let u = put (s .pre .1 .0) (s .args .left) (s .args .right) (s .pre .1 .1 .0)
+    let u = put (s .pre .1 .1 .1 .1 .1) (s .pre .1 .0) (s .args .left) (s .args .right) (s .pre .1 .1 .0)
     (c .before .before .before .before .before .before .before .before .before .before .before .before .before .before .before .before .before .before .if1 .left)
     (c .before .before .before .before .before .before .before .before .before .before .before .before .before .before .before .before .if2 .left)
-    (s .pre .1 .1 .1 .0) (s .pre .1 .1 .1 .1)
+    (s .pre .1 .1 .1 .0) (s .pre .1 .1 .1 .1 .0)
     (c .before .before .before .before .before .before .before .before .before .before .before .before .before .before .before .lower .ensures)
     (c .before .before .before .before .before .before .before .before .before .before .before .before .before .past .ensures)
     (c .before .before .before .before .before .before .before .before .before .before .before .past2 .ensures)
@@ -115,10 +115,10 @@ merge-same-length-2 t c = search needs
 merge-returns-4 : (t : ℕ) → merge-lts.Need-returns-4 (merge-claims t) (merge-at t) merge.Post
 merge-returns-4 t c =
     let s = c .before .before .before .before .before .before .before .before .before .before .before .before .before .before .before .before .before .before .before in
-    let u = filled (s .pre .1 .0) (s .args .left) (s .args .right) (s .pre .1 .1 .0)
+    let u = filled (s .pre .1 .1 .1 .1 .1) (s .pre .1 .0) (s .args .left) (s .args .right) (s .pre .1 .1 .0)
     (c .before .before .before .before .before .before .before .before .before .before .before .before .before .before .if1 .left)
     (c .before .before .before .before .before .before .before .before .before .before .before .before .if2 .left)
-    (s .pre .1 .1 .1 .0) (s .pre .1 .1 .1 .1)
+    (s .pre .1 .1 .1 .0) (s .pre .1 .1 .1 .1 .0)
     (c .before .before .before .before .before .before .before .before .before .before .before .lower .ensures)
     (c .before .before .before .before .before .before .before .before .before .past .ensures)
     (c .before .before .before .before .before .before .before .past2 .ensures)
