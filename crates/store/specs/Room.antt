@@ -8,6 +8,7 @@ use Rattle.refusals.specs.Limits.{least-room, most-room}
 use Rattle.runs.specs.Runs.{space-in, laid-items}
 use Rattle.records.specs.declared.record.Record.{Record}
 use Rattle.records.specs.Record.{first-records, run-of}
+use Rattle.records.specs.Kind.{nothing-kind, empty-word-kind}
 
 -- The store of so many places in a room.
 abbrev pub store-in : List ℕ → ℕ → List Record
@@ -27,10 +28,10 @@ wrong-room size = ltb size least-room || ltb most-room size || not (eqb (size % 
 
 -- "Every call begins a fresh store in the lent work room: place 0 is nothing, place 1 the empty word."
 abbrev pub nothing-record : Record
-nothing-record = record { kind = 0; letter = 0; mark = 0; fourth = 0; left = 0; right = 0 }
+nothing-record = record { kind = nothing-kind; letter = 0; mark = 0; fourth = 0; left = 0; right = 0 }
 
 abbrev pub empty-word-record : Record
-empty-word-record = record { kind = 1; letter = 0; mark = 1; fourth = 0; left = 0; right = 0 }
+empty-word-record = record { kind = empty-word-kind; letter = 0; mark = 1; fourth = 0; left = 0; right = 0 }
 
 abbrev pub fresh-store : List Record
 fresh-store = nothing-record ∷ empty-word-record ∷ []

@@ -1,4 +1,4 @@
-// The store: finding, writing, and making records in the lent work room, each under one `requires`, that the store is good.
+// The store: finding, writing and making records in the lent work room, each of which asks that the store is good.
 // The definitions that the contracts cite stand in specs/; specs/Lib.antt lists them. Nothing of this is offered to others.
 pub mod finding;
 pub mod interning;

@@ -14,7 +14,7 @@ pub enum Byte {
 }
 
 // The half of a byte that a digit stands for, or `NO_HALF`.
-pub fn half_of(digit: u8) -> u8
+fn half_of(digit: u8) -> u8
     ensures { λ h. ⌜ HalfOf digit h ⌝ }
 {
     match digit {

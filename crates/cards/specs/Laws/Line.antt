@@ -79,22 +79,12 @@ line-right line at r =
     }
 
 module _ {line : Columns} {at : ℕ} {r : Record} (o : LineOf line at r) where
-  -- A child's number is lower ..
+  -- A child's number is lower.
   pub left-child : line .left ≡ true → r .left < at
   left-child e = subst (λ (child : Bool). ChildField child at (r .left)) e (o .left)
 
   pub right-child : line .right ≡ true → r .right < at
   right-child e = subst (λ (child : Bool). ChildField child at (r .right)) e (o .right)
-
-  -- .. and a field that is no child, or no letter, is 0.
-  pub left-zero : line .left ≡ false → r .left ≡ 0
-  left-zero e = subst (λ (child : Bool). ChildField child at (r .left)) e (o .left)
-
-  pub right-zero : line .right ≡ false → r .right ≡ 0
-  right-zero e = subst (λ (child : Bool). ChildField child at (r .right)) e (o .right)
-
-  pub letter-zero : line .letter ≡ false → r .letter ≡ 0
-  letter-zero e = subst (λ (any : Bool). LetterField any (r .letter)) e (o .letter)
 
   -- Whatever the line: lower, or else 0.
   pub lower-left : (r .left < at) ⊎ (r .left ≡ 0)
