@@ -2,3 +2,4 @@
 pub mod Signed
 pub mod MatchingEdges
 pub mod ComparingEdges
+pub mod Figures
