@@ -1,5 +1,6 @@
 -- What is proved of the definitions: nothing here has to be believed, each file is checked.
 pub mod Refusals
+pub mod Unfolds
 pub mod Compare
 pub mod Counts
 pub mod Enough

@@ -34,8 +34,8 @@ use Rattle.checking.specs.Outcome.{check-standing, mapped, Outcome, told
 use Rattle.checking.specs.Along.{visits-loaded, visits-opened, visits-standing, check-visits}
 use Rattle.checking.specs.Point.{GoodTable}
 use Rattle.checking.specs.Promise.{Loaded, TrueVerdict, accepted-true, rejected-true, refused-true}
-use Rattle.checking.specs.Laws.Point.{Inside, good-not-failing, good-equal}
-use Rattle.checking.specs.Laws.Letters.{Ran}
+use Rattle.checking.specs.Laws.Point.{good-not-failing, good-equal}
+use Rattle.checking.specs.Laws.Along.{Ran, Inside}
 use Rattle.checking.specs.Laws.Check.{CheckLaw, was-accepted, was-rejected, was-cut-off, check-law}
 use Rattle.checking.specs.Laws.Refusals.{Unrefused, unrefused, no-refusal, AtOnce, to-6, by-11, at-once-number, good-proof, named-below, length-mapped, mapped-at}
 

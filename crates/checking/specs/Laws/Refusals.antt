@@ -1,6 +1,6 @@
 -- A call of checking that is not refused at once, and the numbers by which one is: the laws of any order of refusals, of checking's. And number 11:
 -- every listed pair names two records of the proof card.
-use Prim.Native.Nat.{ℕ, zero, suc, _*_, _/_, _<_, _≤_}
+use Prim.Native.Nat.{ℕ, zero, suc, _/_, _<_, _≤_}
 use native.Mathlib.Omega.{arith}
 use mathlib.Core.Bool.{Bool, true, false, not, _&&_}
 use mathlib.Core.List.{List, [], _∷_}

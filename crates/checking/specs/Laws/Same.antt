@@ -1,7 +1,7 @@
 -- "Same" passes the whole call. Document 01: "The store and pair table of a "same" answer are a valid proof card and pair list." The store,
 -- loaded as a card behind the two pattern cards, puts every record at its own place and adds nothing; so the listed pairs are the table's own,
 -- the table is good, and it is accepted at the search's own cost.
-use Prim.Native.Nat.{ℕ, suc, _+_, _-_, _/_, _<_, _≤_}
+use Prim.Native.Nat.{ℕ, suc, _-_, _/_, _<_, _≤_}
 use native.Mathlib.Omega.{arith}
 use mathlib.Core.Bool.{Bool, true, false}
 use mathlib.Core.List.{List, [], _∷_}
@@ -10,7 +10,7 @@ use lib.Dec.{ltb}
 use lib.ListN.{length, getD}
 use Rattle.answers.specs.Comparing.{are-same, are-different, word-room-short, refused-by}
 use Rattle.answers.specs.Checking.{is-accepted}
-use Rattle.language.specs.Word.{Bytes, IsByte, Listed}
+use Rattle.language.specs.Word.{Bytes}
 use Rattle.language.specs.Language.{Language, language}
 use Rattle.records.specs.declared.record.Record.{Record}
 use Rattle.refusals.specs.declared.Standing.{Standing}
@@ -34,18 +34,17 @@ use Rattle.pairs.specs.Laws.Room.{listed-of-run}
 use Rattle.pairs.specs.Laws.LegalRoom.{legal-pair-room, not-wrong-pair-room}
 use Rattle.pairs.specs.Laws.Tried.{tried-rise, tried-bytes}
 use Rattle.pairs.specs.Laws.Opening.{BothOpened, OpenLaw, both-opened, was-filled, open-law}
-use Rattle.searching.specs.Cost.{list-cost}
 use Rattle.searching.specs.Search.{Search, same, different, stopped, search}
 use Rattle.comparing.specs.Compare.{compare-standing, of-search, search-opened, compare-by, compare-outcome, Outcome as Comparing, told-at as told-comparing}
-use Rattle.searching.specs.Laws.Course.{SearchCourse, course-same, course-different, course-stopped, search-course}
+use Rattle.searching.specs.Laws.Cost.{same-cost}
 use Rattle.comparing.specs.Laws.Refusals.{unrefused}
 use Rattle.searching.specs.Laws.Search.{Ends, ends-same, ends-different, ends-stopped, search-law}
 use Rattle.checking.specs.Check.{check-list}
 use Rattle.checking.specs.Outcome.{mapped, told-at, of-checking, check-loaded, check-opened, check-by, check-outcome}
 use Rattle.checking.specs.Point.{GoodTable}
-use Rattle.checking.specs.Laws.Accepts.{good-accepted, same-good}
+use Rattle.checking.specs.Laws.Point.{good-of}
+use Rattle.checking.specs.Laws.Accepts.{good-accepted}
 use Rattle.checking.specs.Laws.Refusals.{Unrefused, no-refusal, below-named}
-use Rattle.checking.specs.Laws.FirstPair.{EndsWith, in-table, search-with}
 
 -- A list whose pairs are mapped to themselves.
 mapped-own : (places : List ℕ) (count : ℕ) → ((at : ℕ) → at < count → getD places at 0 ≡ at) → (list : List Pair)
@@ -137,38 +136,24 @@ record SameTable (letters : List ℕ) (room pairs x y : ℕ) (store₀ store : L
   good : GoodTable letters store table x y
 
 same-table : {letters : List ℕ} {room pairs x y : ℕ} {A B : Language} {store₀ store : List Record} {table : List Pair} {unspent : ℕ} {s : Search} → s ≡ same store table unspent
-    → Ends room pairs letters A B store₀ s → EndsWith x y s → SameTable letters room pairs x y store₀ store table
-same-table {letters} {room} {pairs} {x} {y} {store₀ = store₀} {store} {table} e (ends-same {store = s} {table = t} kept f fits) (in-table o) =
-    let p : s ≡ store = cc in
+    → Ends room pairs letters A B x y store₀ s → SameTable letters room pairs x y store₀ store table
+same-table {letters} {room} {pairs} {x} {y} {store₀ = store₀} {store} {table} e (ends-same {k} {table = t} kept over inside good fits) =
+    let p : k .store ≡ store = cc in
     let q : t ≡ table = cc in
-    let g = same-good f in
+    let g = good-of good in
+    let l = g .opening .inside in
     subst (λ (z : List Pair). SameTable letters room pairs x y store₀ store z) q
     (subst (λ (z : List Record). SameTable letters room pairs x y store₀ z t) p
     (record {
       grows = kept .grows;
       ready = kept .ready;
-      some = f .some;
+      some = omega arith;
       fits = fits;
-      inside = λ n l. (f .entry n l .left-inside, f .entry n l .right-inside);
-      good = record { opening = o; right = g .right };
+      inside = inside;
+      good = g;
     }))
-same-table e (ends-different _ _ _ _ _ _) h = let z : _≡_ {A = ℕ} 0 1 = cc in absurd (omega arith)
-same-table e (ends-stopped _ _ _) h = let z : _≡_ {A = ℕ} 0 1 = cc in absurd (omega arith)
-
--- A search that ends with "same" costs the visits of its table.
-same-cost : (room pairs : ℕ) (letters : List ℕ) → ((c : ℕ) → Listed letters c → IsByte c) → (x y : ℕ) (store : List Record) (budget : ℕ)
-    → Ready room store → x < length store → y < length store → (store′ : List Record) (table : List Pair) (left : ℕ)
-    → search room pairs letters x y store budget ≡ same store′ table left → budget ≡ list-cost letters store′ table + left
-same-cost room pairs letters bytes x y store budget ready i j store′ table left e = go (search-course {room = room} {pairs = pairs} letters bytes x y budget ready i j) e
-  where
-    go : {s : Search} → SearchCourse letters x y store room pairs budget s → s ≡ same store′ table left → budget ≡ list-cost letters store′ table + left
-    go (course-same {store′ = a} {table = t} {left = l} paid again) f =
-        let p : a ≡ store′ = cc in
-        let q : t ≡ table = cc in
-        let r : l ≡ left = cc in
-        paid ∙ (λ i. list-cost letters (p i) (q i) + r i)
-    go (course-different cost paid again) f = let z : _≡_ {A = ℕ} 0 1 = cc in absurd (omega arith)
-    go (course-stopped h l) f = let z : _≡_ {A = ℕ} 0 1 = cc in absurd (omega arith)
+same-table e (ends-different _ _ _ _ _ _) = let z : _≡_ {A = ℕ} 0 1 = cc in absurd (omega arith)
+same-table e (ends-stopped _ _ _) = let z : _≡_ {A = ℕ} 0 1 = cc in absurd (omega arith)
 
 module _ (left right : List ℕ) (lefts : Bytes left) (rights : Bytes right) (work pairs budget : ℕ) {o : Comparing} (h : SameFound left right work pairs budget o) where
   found-table : SameTable (tried left right) (work / 8) (pairs / 8) (h .x) (h .y) (h .store₀) (h .store) (h .table)
@@ -176,7 +161,6 @@ module _ (left right : List ℕ) (lefts : Bytes left) (rights : Bytes right) (wo
       same-table (h .found)
       (search-law (work / 8) (pairs / 8) (tried left right) (tried-bytes left right) (language (card-pattern left)) (language (card-pattern right)) (tried-rise left right)
       (h .both .kept .ready) (h .x) (h .y) (h .both .left-inside) (h .both .right-inside) (h .both .left-means) (h .both .right-means) budget)
-      (search-with (h .x) (h .y) (work / 8) (pairs / 8) (tried left right) (h .store₀) budget)
 
   -- No refusal is due.
   not-refused-now : Unrefused left right (run-of (h .store)) (run-of-pairs (h .table)) work

@@ -1,9 +1,9 @@
--- The turns of the checker as equations: a letter by what both derivations come to and whether the pair reached is listed, a pair by its marks,
--- the list by its opening pair.
+-- The turns of the checker, for the laws that follow it case by case: a letter by what both derivations come to and whether the pair reached is listed, a
+-- pair by its marks, the list by its opening pair.
 use Prim.Native.Nat.{ℕ, suc}
 use mathlib.Core.Bool.{Bool, true, false, Bool·beq}
-use mathlib.Core.List.{List, _∷_}
-use mathlib.Core.Path.{_≡_, refl, sym, _∙_, ap}
+use mathlib.Core.List.{List}
+use mathlib.Core.Path.{_≡_, ap}
 use Rattle.answers.specs.Checking.{at-opening, at-marks, at-letter}
 use Rattle.records.specs.declared.record.Record.{Record}
 use Rattle.records.specs.Record.{child}
@@ -12,13 +12,6 @@ use Rattle.derivative.specs.Derivative.{Deriving, derived, stopped, derive}
 use Rattle.pairs.specs.declared.pair.Pair.{Pair}
 use Rattle.pairs.specs.Pair.{stands-in}
 use Rattle.checking.specs.Check.{Checking, rejected, cut-off, Passing, passes, ends, check-letters, check-pairs, check-list}
-
--- Equal marks test as equal.
-pub beq-same : (p q : Bool) → p ≡ q → Bool·beq p q ≡ true
-beq-same true true e = refl
-beq-same true false e = sym e
-beq-same false true e = e
-beq-same false false e = refl
 
 -- The two marks of a pair, compared.
 abbrev pub marks-equal : List Record → Pair → Bool
@@ -36,18 +29,6 @@ module _ (room : ℕ) (pairs : List Pair) (n x y c : ℕ) (rest : List ℕ) wher
   abbrev pub left-then : Deriving → Passing
   left-then d = elim d as (λ _. Passing) [ derived x₁ s b ↦ right-then x₁ (derive room c y s b) | stopped number s b ↦ ends (cut-off number s b) ]
 
-  module _ (store : List Record) (b : ℕ) {store₁ store₂ : List Record} {b₁ b₂ x₁ y₂ : ℕ}
-      (left : derive room c x store b ≡ derived x₁ store₁ b₁) (right : derive room c y store₁ b₁ ≡ derived y₂ store₂ b₂) where
-    both-derived : check-letters room pairs n x y (c ∷ rest) store b ≡ by-listed (stands-in pairs x₁ y₂) store₂ b₂
-    unfolding check-letters
-    both-derived = ap left-then left ∙ ap (right-then x₁) right
-
-    pub pair-listed : stands-in pairs x₁ y₂ ≡ true → check-letters room pairs n x y (c ∷ rest) store b ≡ check-letters room pairs n x y rest store₂ b₂
-    pair-listed e = both-derived ∙ ap (λ (t : Bool). by-listed t store₂ b₂) e
-
-    pub pair-unlisted : stands-in pairs x₁ y₂ ≡ false → check-letters room pairs n x y (c ∷ rest) store b ≡ ends (rejected (at-letter n c) store₂ b₂)
-    pair-unlisted e = both-derived ∙ ap (λ (t : Bool). by-listed t store₂ b₂) e
-
 -- A pair: what follows its marks, and its letters.
 module _ (room : ℕ) (letters : List ℕ) (pairs : List Pair) (n : ℕ) (p : Pair) (rest : List Pair) where
   abbrev pub letters-then : Passing → Checking
@@ -59,15 +40,6 @@ module _ (room : ℕ) (letters : List ℕ) (pairs : List Pair) (n : ℕ) (p : Pa
         | false ↦ rejected (at-marks n) store b
         | true ↦ letters-then (check-letters room pairs n (p .left) (p .right) letters store b)
       ]
-
-  pub marks-agree : (store : List Record) (b : ℕ) → marks-equal store p ≡ true
-      → check-pairs room letters pairs n (p ∷ rest) store b ≡ letters-then (check-letters room pairs n (p .left) (p .right) letters store b)
-  unfolding check-pairs
-  marks-agree store b e = ap (marks-then store b) e
-
-  pub marks-apart : (store : List Record) (b : ℕ) → marks-equal store p ≡ false → check-pairs room letters pairs n (p ∷ rest) store b ≡ rejected (at-marks n) store b
-  unfolding check-pairs
-  marks-apart store b e = ap (marks-then store b) e
 
 -- The list: what follows the search for its opening pair.
 module _ (room : ℕ) (letters : List ℕ) (pairs : List Pair) (x y : ℕ) (store : List Record) where

@@ -10,6 +10,7 @@ use lib.ListN.{length}
 use Rattle.language.specs.Word.{Bytes}
 use Rattle.language.specs.Language.{Language, language}
 use Rattle.language.specs.Laws.Words.{over-wider}
+use Rattle.language.specs.Laws.StandIn.{equal-of-tried}
 use Rattle.records.specs.declared.record.Record.{Record}
 use Rattle.refusals.specs.declared.Standing.{Standing}
 use Rattle.refusals.specs.declared.Standing.the-variants.{Good, Refused}
@@ -26,7 +27,7 @@ use Rattle.comparing.specs.Promise.{TrueVerdict, same-true, different-tr
 use Rattle.searching.specs.FirstWord.{FirstWord}
 use Rattle.comparing.specs.Laws.Refusals.{unrefused}
 use Rattle.searching.specs.Laws.Search.{Ends, ends-same, ends-different, ends-stopped, search-law}
-use Rattle.searching.specs.Laws.Meaning.{same-equal, first-of-all}
+use Rattle.searching.specs.Laws.Meaning.{first-of-all}
 
 module _ (left right : List ℕ) (lefts : Bytes left) (rights : Bytes right) (work pairs word budget : ℕ) where
   abbrev A : Language
@@ -38,9 +39,9 @@ module _ (left right : List ℕ) (lefts : Bytes left) (rights : Bytes right) (wo
   True : Outcome → Type 0
   True o = TrueVerdict A B (o .tells .pairs) word (o .written) (o .tells .says)
 
-  of-ended : {store : List Record} {s : Search} → Ends (work / 8) (pairs / 8) (tried left right) A B store s → True (of-search word budget s)
+  of-ended : {x y : ℕ} {store : List Record} {s : Search} → Ends (work / 8) (pairs / 8) (tried left right) A B x y store s → True (of-search word budget s)
   unfolding True
-  of-ended (ends-same kept f fits) = same-true (same-equal (tried-bytes left right) (kept .ready .good) f (tried-represent left right lefts rights))
+  of-ended (ends-same kept over inside good fits) = same-true (equal-of-tried (tried left right) A B (tried-represent left right lefts rights) over)
   of-ended (ends-different {word = w} {left-has} {store = s} {table} {budget = b} kept o one before short fits) = go (ltb word (length w)) refl
     where
       found : FirstWord A B w left-has (length table)

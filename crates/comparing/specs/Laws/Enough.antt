@@ -4,12 +4,14 @@
 use Prim.Native.Nat.{ℕ, _+_, _-_, _/_, _≤_}
 use native.Mathlib.Omega.{arith}
 use mathlib.Core.Bool.{Bool, true, false, false≢true}
-use mathlib.Core.List.{List, []}
+use mathlib.Core.List.{List}
 use mathlib.Core.Path.{_≡_, refl, sym, _∙_, ap, subst}
-use lib.Dec.{ltb}
-use borrow.Author.Tests.{ltb-false, le-ltb}
 use lib.ListN.{length}
 use Rattle.language.specs.Word.{Bytes}
+use Rattle.machine.specs.Laws.Search as machine
+use Rattle.machine.specs.Laws.Outcome.{of-search as machine-of-search, written-fits, short-then-written}
+use Rattle.machine.specs.Laws.Outcome as machine-outcome
+use Rattle.machine.specs.Laws.Enough.{final-says, AlsoOutcome, also-told, just-enough as just-enough-told, told-kept}
 use Rattle.records.specs.declared.record.Record.{Record}
 use Rattle.refusals.specs.declared.Standing.{Standing}
 use Rattle.refusals.specs.declared.Standing.the-variants.{Good, Refused}
@@ -19,28 +21,21 @@ use Rattle.store.specs.Laws.Wall.{grows-length}
 use Rattle.pairs.specs.declared.pair.Pair.{Pair}
 use Rattle.pairs.specs.Room.{wrong-pair-room}
 use Rattle.pairs.specs.Tried.{tried}
+use Rattle.pairs.specs.Laws.Tried.{tried-bytes}
 use Rattle.pairs.specs.Opening.{Opening, opened, unopened, open-both}
 use Rattle.pairs.specs.Laws.Opening.{BothOpened}
-use Rattle.searching.specs.Search.{Search, same, different, stopped, search}
-use Rattle.searching.specs.Cost.{list-cost}
-use Rattle.answers.specs.Comparing.{Verdict, are-same, are-different, refused-by, word-room-short}
-use Rattle.comparing.specs.Compare.{compare-standing, Outcome, told-at, of-word, of-search, search-opened, compare-by, compare-outcome}
-use Rattle.searching.specs.Laws.Keeps.{KeepsSearch, keeps-same, keeps-different, keeps-stopped}
-use Rattle.searching.specs.Laws.Course.{SearchCourse, course-same, course-different, course-stopped}
+use Rattle.searching.specs.Search.{search}
+use Rattle.searching.specs.Laws.StoreMachine.{Having, having, Grown, store-machine, store-lawful, Beside, store-redoing}
+use Rattle.answers.specs.Comparing.{Verdict, are-same, are-different, word-room-short}
+use Rattle.comparing.specs.Compare.{compare-standing, Outcome, told-at, of-search, search-opened, compare-by, compare-outcome}
 use Rattle.comparing.specs.Laws.Refusals.{Unrefused, no-refusal}
+use Rattle.comparing.specs.Laws.Unfolds.{compared, searched-is}
 use Rattle.comparing.specs.Laws.Counts.{Call, refused-at-once, full-in-opening, searched, call, compare-counts}
 
 -- A final answer: same or different.
 pub data Final : Verdict → Type 0 where
   final-same : Final are-same
   final-different : {length : ℕ} {left-has : Bool} → Final (are-different length left-has)
-
--- The same as a test: a refusal is not final, and neither is a word room that is short.
-abbrev final-says : Verdict → Bool
-final-says are-same = true
-final-says (are-different length left-has) = true
-final-says (refused-by number) = false
-final-says (word-room-short wanted) = false
 
 is-final : {v : Verdict} → Final v → final-says v ≡ true
 is-final final-same = refl
@@ -62,51 +57,40 @@ module _ {left right : List ℕ} {work pairs : ℕ} (u : Unrefused left right wo
       (no-refusal left right work′ pairs′ (record { left-good = u .left-good; right-good = u .right-good; room-legal = room-legal; pair-room-legal = pair-room-legal }))
       ∙ ap (search-opened (work′ / 8) (pairs′ / 8) word′ (tried left right) budget′) (o .enough (work′ / 8) n)
 
-  -- A search that can be done again at this cost, done with a budget that pays it.
-  searched-again : (cost : ℕ) (store₂ : List Record) (table₂ : List Pair) (end : ℕ → Search)
-      → ((room pairs rest : ℕ) → length store₂ ≤ room → length table₂ ≤ pairs → search room pairs (tried left right) x y store (cost + rest) ≡ end rest)
-      → length store ≤ length store₂ → length store₂ ≤ work′ / 8 → length table₂ ≤ pairs′ / 8 → cost ≤ budget′
-      → compare-outcome left right work′ pairs′ word′ budget′ ≡ of-search word′ budget′ (end (budget′ - cost))
-  searched-again cost store₂ table₂ end again l n m p =
-      let more : budget′ ≡ cost + (budget′ - cost) = omega arith in
-      comes-to-search (omega arith)
-      ∙ ap (λ (b : ℕ). of-search word′ budget′ (search (work′ / 8) (pairs′ / 8) (tried left right) x y store b)) more
-      ∙ ap (of-search word′ budget′) (again (work′ / 8) (pairs′ / 8) (budget′ - cost) n m)
+  -- What was told, over the store as a machine.
+  module _ (word budget : ℕ) where
+    abbrev first : machine-outcome.Outcome Having Pair
+    first = machine-of-search word (machine.search store-machine (pairs / 8) (tried left right) x y (having (work / 8) store budget))
 
--- A word room that is long enough gets the word.
-of-found : (word budget : ℕ) (w : List ℕ) (left-has : Bool) (store : List Record) (table : List Pair) (left : ℕ) → length w ≤ word
-    → of-search word budget (different w left-has store table left) ≡ told-at (are-different (length w) left-has) store table (budget - left) w
-of-found word budget w left-has store table left n = ap (of-word w left-has store table (budget - left)) (le-ltb word (length w) n)
+    grown : Grown (having (work / 8) store budget) (first .has)
+    grown = told-kept store-lawful (tried left right) (tried-bytes left right) (pairs / 8) word (o .kept .ready) x y (o .left-inside) (o .right-inside) .grows
 
-module _ {left right : List ℕ} {work pairs budget : ℕ} (word : ℕ) (u : Unrefused left right work pairs) {x y : ℕ} {store : List Record}
-    (o : BothOpened left right (work / 8) x y store) (work′ pairs′ word′ budget′ : ℕ) (room-legal : wrong-room work′ ≡ false) (pair-room-legal : wrong-pair-room pairs′ ≡ false) where
-  -- A search that comes to a final answer comes to it again.
-  search-enough : {s : Search} → KeepsSearch (work / 8) (pairs / 8) store [] budget s → SearchCourse (tried left right) x y store (work / 8) (pairs / 8) budget s
-      → Final (of-search word budget s .tells .says)
-      → of-search word budget s .tells .places ≤ work′ / 8 → of-search word budget s .tells .pairs ≤ pairs′ / 8
-      → length (of-search word budget s .written) ≤ word′ → of-search word budget s .tells .visits ≤ budget′
-      → compare-outcome left right work′ pairs′ word′ budget′ ≡ of-search word budget s
-  search-enough (keeps-same {store′ = store₂} {table′ = table₂} {budget′ = rest} k) (course-same paid again) f n m l p =
-      let cost = list-cost (tried left right) store₂ table₂ in
-      let spent : budget′ - (budget′ - cost) ≡ budget - rest = omega arith in
-      searched-again u o work′ pairs′ word′ budget′ room-legal pair-room-legal cost store₂ table₂ (same store₂ table₂) again (grows-length (k .kept .grows)) n m (omega arith)
-      ∙ ap (λ (v : ℕ). told-at are-same store₂ table₂ v []) spent
-  search-enough (keeps-different {word = w} {left-has} {store′ = store₂} {table′ = table₂} {budget′ = rest} k) (course-different cost paid again) f n m l p =
-      go (ltb word (length w)) f n m l p
-    where
-      ended : Bool → Outcome
-      ended = of-word w left-has store₂ table₂ (budget - rest)
+    -- What stands beside it tells the same, with the visits of its own budget.
+    told-beside : (rest : ℕ) → budget′ + first .has .budget ≡ budget + rest → first .has .budget ≤ budget
+        → {o o′ : machine-outcome.Outcome Having Pair} → o .has .budget ≡ first .has .budget → AlsoOutcome (Beside (first .has) rest) o o′ → compared budget′ o′ ≡ compared budget o
+    told-beside rest pays spent e (also-told {says} {k} {k′} {table} {written} b) =
+        let visits : budget′ - k′ .budget ≡ budget - k .budget = omega (arith, b .budget) in
+        λ i. told-at says (b .store i) table (visits i) written
 
-      go : (short : Bool) → Final (ended short .tells .says) → ended short .tells .places ≤ work′ / 8 → ended short .tells .pairs ≤ pairs′ / 8
-          → length (ended short .written) ≤ word′ → ended short .tells .visits ≤ budget′
-          → compare-outcome left right work′ pairs′ word′ budget′ ≡ ended short
-      go true f n m l p = not-final f refl
-      go false f n m l p =
-          let spent : budget′ - (budget′ - cost) ≡ budget - rest = omega arith in
-          searched-again u o work′ pairs′ word′ budget′ room-legal pair-room-legal cost store₂ table₂ (different w left-has store₂ table₂) again (grows-length (k .kept .grows)) n m (omega arith)
-          ∙ of-found word′ budget′ w left-has store₂ table₂ (budget′ - cost) l
-          ∙ ap (λ (v : ℕ). told-at (are-different (length w) left-has) store₂ table₂ v w) spent
-  search-enough (keeps-stopped k) (course-stopped h spent) f n m l p = not-final f refl
+    search-enough : Final (first .says) → length (first .has .store) ≤ work′ / 8 → length (first .table) ≤ pairs′ / 8 → length (first .written) ≤ word′
+        → budget - first .has .budget ≤ budget′ → compare-outcome left right work′ pairs′ word′ budget′ ≡ compared budget first
+    search-enough f places table written visits =
+        let letters = tried left right in
+        let bytes = tried-bytes left right in
+        let spent : first .has .budget ≤ budget = grown .spent in
+        let longer = grows-length (grown .store) in
+        let rest = budget′ - (budget - first .has .budget) in
+        let pays : budget′ + first .has .budget ≡ budget + rest = omega arith in
+        comes-to-search (omega arith)
+        ∙ searched-is (pairs′ / 8) word′ letters x y (having (work′ / 8) store budget′) budget′
+        ∙ told-beside rest pays spent refl
+        (just-enough-told store-lawful letters bytes (pairs / 8) word (o .kept .ready) x y (o .left-inside) (o .right-inside) (store-redoing (first .has) rest)
+        (record { store = refl; budget = pays; fits = places })
+        (pairs′ / 8)
+        word′
+        (is-final f)
+        table
+        written)
 
 -- A call that comes to a final answer comes to it again.
 call-enough : {left right : List ℕ} {work pairs word budget : ℕ} {o : Outcome} → Call left right work pairs word budget o → Final (o .tells .says)
@@ -115,24 +99,24 @@ call-enough : {left right : List ℕ} {work pairs word budget : ℕ} {o : Outcom
     → compare-outcome left right work′ pairs′ word′ budget′ ≡ o
 call-enough (refused-at-once e) f work′ pairs′ word′ budget′ a b n m l p = not-final f refl
 call-enough (full-in-opening u h) f work′ pairs′ word′ budget′ a b n m l p = not-final f refl
-call-enough {word = word} (searched u o k c) f work′ pairs′ word′ budget′ a b n m l p = search-enough word u o work′ pairs′ word′ budget′ a b k c f n m l p
-
--- A word that is written fits the word room.
-search-within : (word budget : ℕ) (s : Search) → length (of-search word budget s .written) ≤ word
-search-within word budget (same store table left) = omega arith
-search-within word budget (different w left-has store table left) = go (ltb word (length w)) refl
+call-enough {left} {right} {work} {pairs} {word} {budget} (searched u {x} {y} {store} o) f work′ pairs′ word′ budget′ a b n m l p =
+    go (searched-is (pairs / 8) word (tried left right) x y (having (work / 8) store budget) budget) f n m l p
   where
-    go : (short : Bool) → ltb word (length w) ≡ short → length (of-word w left-has store table (budget - left) short .written) ≤ word
-    go true e = omega arith
-    go false e = ltb-false word (length w) e
-search-within word budget (stopped number store table left) = omega arith
+    go : {c : Outcome} → c ≡ compared budget (first u o work′ pairs′ word′ budget′ a b word budget) → Final (c .tells .says) → c .tells .places ≤ work′ / 8 → c .tells .pairs ≤ pairs′ / 8
+        → length (c .written) ≤ word′ → c .tells .visits ≤ budget′ → compare-outcome left right work′ pairs′ word′ budget′ ≡ c
+    go e = rw e (search-enough u o work′ pairs′ word′ budget′ a b word budget)
 
 -- A final answer came in legal rooms, with a word that fits the word room.
 call-within : {left right : List ℕ} {work pairs word budget : ℕ} {o : Outcome} → Call left right work pairs word budget o → Final (o .tells .says)
     → (wrong-room work ≡ false) × (wrong-pair-room pairs ≡ false) × (length (o .written) ≤ word)
 call-within (refused-at-once e) f = not-final f refl
 call-within (full-in-opening u h) f = not-final f refl
-call-within {word = word} {budget} (searched u o {s} k c) f = (u .room-legal, u .pair-room-legal, search-within word budget s)
+call-within {left} {right} {work} {pairs} {word} {budget} (searched u {x} {y} {store} o) f =
+    let h = having (work / 8) store budget in (
+      u .room-legal,
+      u .pair-room-legal,
+      rw (searched-is (pairs / 8) word (tried left right) x y h budget) (written-fits word (machine.search store-machine (pairs / 8) (tried left right) x y h)),
+    )
 
 module _ (left right : List ℕ) (lefts : Bytes left) (rights : Bytes right) (work pairs word budget : ℕ) where
   -- In legal rooms that hold what is told, with a budget that pays it, the outcome is the same ..
@@ -176,26 +160,14 @@ module _ (left right : List ℕ) (work pairs word budget n : ℕ) (word′ : ℕ
   abbrev Written : (ℕ → Outcome) → Type 0
   Written o = o word .tells .says ≡ word-room-short n → WordWritten n (o word) (o word′)
 
-  found-then : (w : List ℕ) (left-has : Bool) (store : List Record) (table : List Pair) (left : ℕ) (short : Bool)
-      → of-word w left-has store table (budget - left) short .tells .says ≡ word-room-short n
-      → WordWritten n (of-word w left-has store table (budget - left) short) (of-search word′ budget (different w left-has store table left))
-  found-then w left-has store table left true e =
-      let long : length w ≡ n = cc in
-      record {
-        word = w;
-        left-has = left-has;
-        long = long;
-        is = of-found word′ budget w left-has store table left (omega arith) ∙ ap (λ (m : ℕ). told-at (are-different m left-has) store table (budget - left) w) long;
-      }
-  found-then w left-has store table left false e = let z : _≡_ {A = ℕ} 0 1 = cc in absurd (omega arith)
-
-  search-then : (s : Search) → Written (λ room. of-search room budget s)
-  search-then (same store table left) e = let z : _≡_ {A = ℕ} 0 1 = cc in absurd (omega arith)
-  search-then (different w left-has store table left) e = found-then w left-has store table left (ltb word (length w)) e
-  search-then (stopped number store table left) e = let z : _≡_ {A = ℕ} 0 1 = cc in absurd (omega arith)
+  search-then : (x y : ℕ) (h : Having) → Written (λ room. of-search room budget (search (h .room) (pairs / 8) (tried left right) x y (h .store) (h .budget)))
+  search-then x y h = rw (searched-is (pairs / 8) word (tried left right) x y h budget, searched-is (pairs / 8) word′ (tried left right) x y h budget) (λ e. of-machine (short-then-written word word′ n (machine.search store-machine (pairs / 8) (tried left right) x y h) e enough))
+    where
+      of-machine : {o o′ : machine-outcome.Outcome Having Pair} → machine-outcome.WordWritten n o o′ → WordWritten n (compared budget o) (compared budget o′)
+      of-machine w = record { word = w .word; left-has = w .left-has; long = w .long; is = ap (compared budget) (w .is) }
 
   opened-then : (o : Opening) → Written (λ room. search-opened (work / 8) (pairs / 8) room (tried left right) budget o)
-  opened-then (opened x y store) e = search-then (search (work / 8) (pairs / 8) (tried left right) x y store budget) e
+  opened-then (opened x y store) e = search-then x y (having (work / 8) store budget) e
   opened-then (unopened store) e = let z : _≡_ {A = ℕ} 0 1 = cc in absurd (omega arith)
 
   standing-then : (s : Standing) → Written (λ room. compare-by s left right work pairs room budget)

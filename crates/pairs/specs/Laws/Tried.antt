@@ -3,15 +3,15 @@
 use Prim.Native.Nat.{ℕ, zero, suc, _+_, _<_, _≤_}
 use native.Mathlib.Numerals.{add-one}
 use native.Mathlib.Omega.{arith}
-use mathlib.Core.Bool.{Bool, true, false, cond, _||_, or-true}
-use mathlib.Core.List.{List, [], _∷_, _++_, append-nil, List·Memᴰ·head, List·Memᴰ·tail, List·Memᴰ·not-nil, List·Memᴰ·cases-cons, List·Memᴰ·append-cases, List·Memᴰ·eq-of-singleton, Memᴰ·append-right}
-use mathlib.Core.Logic.{⊎-elim}
+use mathlib.Core.Bool.{Bool, true, false, cond, or-true}
+use mathlib.Core.List.{List, [], _∷_, _++_, append-nil}
 use mathlib.Core.Path.{_≡_, refl, _∙_, ap}
 use lib.ListN.{length, take, set, length-set, length-append}
 use lib.Seq.{take-suc-set}
 use Rattle.language.specs.Word.{Word, Bytes, IsByte, Listed}
 use Rattle.language.specs.Language.{language}
 use Rattle.language.specs.Laws.Atoms.{atoms}
+use Rattle.language.specs.Laws.Rising.{Rising, none-rise, rising-more}
 use Rattle.language.specs.Laws.StandIn.{Represented, represented}
 use Rattle.records.specs.Record.{records}
 use Rattle.cards.specs.Meaning.{card-pattern}
@@ -90,36 +90,7 @@ all-written left right {at = at} w l =
     let e = ap (λ (n : ℕ). those-below n (mentioned left right)) last in
     (w .counted ∙ ap length e, w .stand ∙ e)
 
--- Letters that rise: each below those behind it.
-pub data Rising : List ℕ → Type 0 where
-  none-rise : Rising []
-  rises : {c : ℕ} {l : List ℕ} → ((d : ℕ) → Listed l d → c < d) → Rising l → Rising (c ∷ l)
-
-pub rising-above : (done : List ℕ) (c : ℕ) (rest : List ℕ) → Rising (done ++ c ∷ rest) → (d : ℕ) → Listed done d → d < c
-rising-above [] c rest r d m = absurd (List·Memᴰ·not-nil m)
-rising-above (a ∷ done) c rest (rises h r) d m =
-    ⊎-elim (λ e. let l = h c (Memᴰ·append-right done (List·Memᴰ·head refl)) in omega arith)
-    (λ k. rising-above done c rest r d k)
-    (List·Memᴰ·cases-cons m)
-
-rising-tail : (done : List ℕ) (c : ℕ) (rest : List ℕ) → Rising (done ++ c ∷ rest) → (d : ℕ) → Listed rest d → c < d
-rising-tail [] c rest (rises h r) d m = h d m
-rising-tail (a ∷ done) c rest (rises h r) d m = rising-tail done c rest r d m
-
-pub rising-below : (done : List ℕ) (c : ℕ) (rest : List ℕ) → Rising (done ++ c ∷ rest) → (d : ℕ) → Listed (done ++ c ∷ rest) d → d < c → Listed done d
-rising-below done c rest r d m l =
-    ⊎-elim (λ k. k)
-    (λ k.
-    ⊎-elim (λ e. absurd (omega arith))
-    (λ j. let h = rising-tail done c rest r d j in absurd (omega arith))
-    (List·Memᴰ·cases-cons k))
-    (List·Memᴰ·append-cases done m)
-
-rising-more : (c : ℕ) {l : List ℕ} → Rising l → ((d : ℕ) → Listed l d → d < c) → Rising (l ++ c ∷ [])
-rising-more c none-rise h = rises (λ d m. absurd (List·Memᴰ·not-nil m)) none-rise
-rising-more c (rises {c = a} {l} k r) h =
-    rises (λ d m. ⊎-elim (λ n. k d n) (λ (n : Listed (c ∷ []) d). let e : d ≡ c = List·Memᴰ·eq-of-singleton n in let b = h a (List·Memᴰ·head refl) in omega arith) (List·Memᴰ·append-cases l m))
-    (rising-more c r (λ d m. h d (List·Memᴰ·tail m)))
+-- The letters tried rise.
 
 rising-below-more : (n : ℕ) (test : ℕ → Bool) → Rising (those-below n test) → (b : Bool) → Rising (those-below n test ++ cond b (n ∷ []) [])
 rising-below-more n test r true = rising-more n r (λ d m. those-below-sound n test d m .0)

@@ -10,6 +10,7 @@ use lib.Dec.{ltb}
 use borrow.Author.Tests.{ltb-true}
 use lib.ListN.{length}
 use Rattle.language.specs.Word.{IsByte, Listed}
+use Rattle.machine.specs.Laws.Keeps.{extends-length}
 use Rattle.records.specs.declared.record.Record.{Record}
 use Rattle.records.specs.Record.{child}
 use Rattle.cards.specs.Mark.{marked}
@@ -24,7 +25,7 @@ use Rattle.searching.specs.ReadOff.{word-of}
 use Rattle.searching.specs.Search.{Search, same, different, stopped, Going, on, ends, look, by-letter, by-letters, take-pairs, search}
 use Rattle.searching.specs.Along.{visits-made, letter-visits, letters-visits, pairs-visits, search-visits}
 use Rattle.searching.specs.Laws.Parts.{after-deriving, DeriveLaw, after-going, search-after, turned, looked}
-use Rattle.searching.specs.Laws.Keeps.{Tabled, tabled-grows, tabled-none, extends-length, KeptBoth, KeepsGoing, keeps-on, keeps-ends-different, keeps-ends-stopped, look-keeps, by-letter-keeps, by-letters-keeps}
+use Rattle.searching.specs.Laws.Keeps.{Tabled, tabled-grows, tabled-none, KeptBoth, KeepsGoing, keeps-on, keeps-ends-different, keeps-ends-stopped, look-keeps, by-letter-keeps, by-letters-keeps}
 
 -- The budget that is left where a search ends, and after a part of it.
 

@@ -8,6 +8,7 @@ use mathlib.Core.Path.{_≡_, refl, sym, _∙_, ap, subst}
 use lib.ListN.{length, getD, drop, drop-of-length-le}
 use lib.Seq.{drop-cons}
 use Rattle.language.specs.Word.{IsByte}
+use Rattle.machine.specs.Laws.Keeps.{extends-refl, extends-length}
 use Rattle.records.specs.declared.record.Record.{Record}
 use Rattle.store.specs.Room.{store-in, places-of}
 use Rattle.store.specs.Good.{GoodStore}
@@ -30,7 +31,7 @@ use Rattle.searching.specs.declared.going.Going.the-variants.{On, Ends a
 use Rattle.searching.specs.ReadOff.{word-of}
 use Rattle.searching.specs.Search.{stopped, Going, on, ends, look, by-letter, by-letters}
 use Rattle.searching.specs.Told.{GoodPairs, found-word, tells-stopped, TellsGoing, tells-on, tells-ends, Goes}
-use Rattle.searching.specs.Laws.Keeps.{tabled-grows, extends-refl, extends-length, KeepsGoing, look-keeps, by-letter-keeps}
+use Rattle.searching.specs.Laws.Keeps.{tabled-grows, KeepsGoing, look-keeps, by-letter-keeps}
 use Rattle.searching.specs.Laws.Looking.{Looking}
 use Rattle.searching.specs.Laws.Rooms.{Stood, stood-first, places-now, pairs-now, store-now, table-now, good-now, good-pairs-now, goes-from, went-on, went-out, stood-on}
 

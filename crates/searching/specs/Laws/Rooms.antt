@@ -7,6 +7,7 @@ use mathlib.Core.Logic.{⊎-elim}
 use mathlib.Core.Path.{_≡_, refl, sym, _∙_, ap, ap₂, subst}
 use lib.ListN.{length}
 use Rattle.language.specs.Word.{none, one, Bytes, IsByte, Listed}
+use Rattle.machine.specs.Laws.Keeps.{extends-length}
 use Rattle.refusals.specs.Limits.{most-pairs}
 use Rattle.records.specs.declared.record.Record.{Record}
 use Rattle.store.specs.Room.{store-in, places-of, laid}
@@ -24,7 +25,7 @@ use Rattle.searching.specs.declared.going.Going.{Going as CodeGoing}
 use Rattle.searching.specs.declared.going.Going.the-variants.{On, Ends as EndsCode}
 use Rattle.searching.specs.Search.{Search, Going, on, ends}
 use Rattle.searching.specs.Told.{GoodPairs, TellsEnd, TellsGoing, tells-on, tells-ends, end-store, end-table, going-store, going-table, Goes, Ends}
-use Rattle.searching.specs.Laws.Keeps.{Tabled, extends-length, KeptBoth, kept-both-refl, kept-both-trans, KeepsSearch, keeps-same, keeps-different, keeps-stopped, KeepsGoing, keeps-on, keeps-ends-different, keeps-ends-stopped}
+use Rattle.searching.specs.Laws.Keeps.{Tabled, KeptBoth, kept-both-refl, kept-both-trans, KeepsSearch, keeps-same, keeps-different, keeps-stopped, KeepsGoing, keeps-on, keeps-ends-different, keeps-ends-stopped}
 
 -- A letter of a list of bytes is a byte.
 pub listed-byte : {letters : List ℕ} → Bytes letters → (c : ℕ) → Listed letters c → IsByte c

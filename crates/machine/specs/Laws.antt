@@ -1,0 +1,21 @@
+-- What is proved of the definitions: nothing here has to be believed, each file is checked.
+pub mod Machine
+pub mod Finding
+pub mod Search
+pub mod Check
+pub mod Words
+pub mod Table
+pub mod Redoing
+pub mod Price
+pub mod Keeps
+pub mod Frontier
+pub mod Ends
+pub mod Meaning
+pub mod Again
+pub mod Cost
+pub mod Outcome
+pub mod Enough
+pub mod Pass
+pub mod PassAgain
+pub mod Accepts
+pub mod Small
