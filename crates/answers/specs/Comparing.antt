@@ -1,6 +1,7 @@
 -- What an answer of comparing tells. Document 01: "Number 10 also tells the length wanted".
 use Prim.Native.Nat.{ℕ}
 use mathlib.Core.Bool.{Bool}
+use Rattle.refusals.specs.Numbers.{short-word-room}
 use Rattle.answers.specs.declared.Comparison.{Comparison}
 use Rattle.answers.specs.declared.Comparison.the-variants.{Same, Different, Refused, WordRoomShort}
 
@@ -9,7 +10,7 @@ pub data Verdict : Type 0 where
   are-same : Verdict
   are-different : (length : ℕ) (left-has : Bool) → Verdict
   refused-by : (number : ℕ) → Verdict
-  word-room-short : (wanted : ℕ) → Verdict
+  word-room-short : (number wanted : ℕ) → Verdict
 
 -- What is told: the verdict, the pairs, the places and the visits.
 pub record Told : Type 0 where
@@ -24,4 +25,4 @@ told (Same pairs places visits) = record { says = are-same; pairs = pairs; place
 told (Different length left-has pairs places visits) =
     record { says = are-different length left-has; pairs = pairs; places = places; visits = visits }
 told (Refused number pairs places visits) = record { says = refused-by number; pairs = pairs; places = places; visits = visits }
-told (WordRoomShort wanted pairs places visits) = record { says = word-room-short wanted; pairs = pairs; places = places; visits = visits }
+told (WordRoomShort wanted pairs places visits) = record { says = word-room-short short-word-room wanted; pairs = pairs; places = places; visits = visits }

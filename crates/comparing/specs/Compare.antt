@@ -14,7 +14,7 @@ use Rattle.refusals.specs.declared.Standing.{Standing}
 use Rattle.refusals.specs.declared.Standing.the-variants.{Good, Refused}
 use Rattle.records.specs.Record.{records}
 use Rattle.cards.specs.Examine.{pattern-card}
-use Rattle.refusals.specs.Numbers.{work-room-size, pair-room-size, no-free-place}
+use Rattle.refusals.specs.Numbers.{work-room-size, pair-room-size, no-free-place, short-word-room}
 use Rattle.refusals.specs.Order.{first-refusal, refused-if}
 use Rattle.store.specs.Room.{wrong-room}
 use Rattle.pairs.specs.declared.pair.Pair.{Pair}
@@ -54,7 +54,7 @@ told-at verdict store table visits written =
 abbrev pub of-word : List ℕ → Bool → List Record → List Pair → ℕ → Bool → Outcome
 of-word word left-has store table visits short =
     elim short [
-      | true ↦ told-at (word-room-short (length word)) store table visits []
+      | true ↦ told-at (word-room-short short-word-room (length word)) store table visits []
       | false ↦ told-at (are-different (length word) left-has) store table visits word
     ]
 

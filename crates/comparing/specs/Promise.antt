@@ -8,6 +8,7 @@ use mathlib.Core.Path.{_≡_}
 use lib.ListN.{length, drop}
 use Rattle.language.specs.Word.{Word}
 use Rattle.language.specs.Language.{Language, language, Equal}
+use Rattle.refusals.specs.Numbers.{short-word-room}
 use Rattle.cards.specs.Meaning.{card-pattern}
 use Rattle.store.specs.Room.{laid}
 use Rattle.pairs.specs.Room.{laid-pairs}
@@ -22,7 +23,7 @@ pub data TrueVerdict (A B : Language) (pairs room : ℕ) (written : Word) : Verd
   different-true : {left-has : Bool} → FirstWord A B written left-has pairs → length written ≤ room
       → TrueVerdict A B pairs room written (are-different (length written) left-has)
   short-true : (word : Word) (left-has : Bool) → FirstWord A B word left-has pairs → room < length word
-      → TrueVerdict A B pairs room written (word-room-short (length word))
+      → TrueVerdict A B pairs room written (word-room-short short-word-room (length word))
   refused-true : {number : ℕ} → TrueVerdict A B pairs room written (refused-by number)
 
 -- The answer tells an outcome, and each room holds what the outcome leaves there, every other byte as lent.

@@ -60,7 +60,7 @@ abbrev pub compared-text : Verdict → List ℕ → ℕ → ℕ → ℕ → List
 compared-text are-same written pairs places visits = same-text pairs places visits
 compared-text (are-different length left-has) written pairs places visits = different-text written (side left-has) pairs places visits
 compared-text (refused-by number) written pairs places visits = refused-text number
-compared-text (word-room-short wanted) written pairs places visits = refused-text short-word-room
+compared-text (word-room-short number wanted) written pairs places visits = refused-text number
 
 -- Of a match: what it says, and the counts.
 abbrev pub matched-text : Says → ℕ → ℕ → List ℕ

@@ -10,7 +10,7 @@ answer-of : Verdict → ℕ → ℕ → ℕ → Comparison
 answer-of are-same pairs places visits = Same pairs places visits
 answer-of (are-different length left-has) pairs places visits = Different length left-has pairs places visits
 answer-of (refused-by number) pairs places visits = Refused number pairs places visits
-answer-of (word-room-short wanted) pairs places visits = WordRoomShort wanted pairs places visits
+answer-of (word-room-short number wanted) pairs places visits = WordRoomShort wanted pairs places visits
 
 abbrev answer-told : Told → Comparison
 answer-told t = answer-of (t .says) (t .pairs) (t .places) (t .visits)

@@ -101,7 +101,7 @@ module _ (left right : List ℕ) (lefts : Bytes left) (rights : Bytes right) (wo
       where
         never : (t : Bool)
             → (elim t as (λ _. Comparing) [
-              | true ↦ told-comparing (word-room-short (length w)) store table (budget - unspent) []
+              | true ↦ told-comparing (word-room-short 10 (length w)) store table (budget - unspent) []
               | false ↦ told-comparing (are-different (length w) left-has) store table (budget - unspent) w
             ]) .tells .says ≡ are-same → ⊥
         never true e = let z : _≡_ {A = ℕ} 0 1 = cc in omega arith

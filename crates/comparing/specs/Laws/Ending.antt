@@ -222,7 +222,7 @@ module _ {work : List ℕ} {places : ℕ} {pairs letters : List ℕ} {x y budget
               let d = ending in
               rw (outcome-is ∙ ap outcome-by (lt-ltb (length word) (length (d .word)) l))
               (record {
-                tells = λ k. record { says = word-room-short (i k); pairs = d .placed-is k; places = d .taken-is k; visits = budget - left };
+                tells = λ k. record { says = word-room-short 10 (i k); pairs = d .placed-is k; places = d .taken-is k; visits = budget - left };
                 work-room = at-work;
                 pair-room = at-pairs;
                 word-room = refl;

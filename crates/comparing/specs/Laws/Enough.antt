@@ -158,7 +158,7 @@ pub record WordWritten (n : ℕ) (o o′ : Outcome) : Type 0 where
 module _ (left right : List ℕ) (work pairs word budget n : ℕ) (word′ : ℕ) (enough : n ≤ word′) where
   -- An outcome, of the word room's size: where the room is short of n bytes, one that is long enough gets the word.
   abbrev Written : (ℕ → Outcome) → Type 0
-  Written o = o word .tells .says ≡ word-room-short n → WordWritten n (o word) (o word′)
+  Written o = o word .tells .says ≡ word-room-short 10 n → WordWritten n (o word) (o word′)
 
   search-then : (x y : ℕ) (h : Having) → Written (λ room. of-search room budget (search (h .room) (pairs / 8) (tried left right) x y (h .store) (h .budget)))
   search-then x y h = rw (searched-is (pairs / 8) word (tried left right) x y h budget, searched-is (pairs / 8) word′ (tried left right) x y h budget) (λ e. of-machine (short-then-written word word′ n (machine.search store-machine (pairs / 8) (tried left right) x y h) e enough))
@@ -175,7 +175,7 @@ module _ (left right : List ℕ) (work pairs word budget n : ℕ) (word′ : ℕ
   standing-then Good e = opened-then (open-both (work / 8) (records left) (records right)) e
 
   -- Where only the word room is short, a word room of the length wanted gets the word, and all else is the same: number 10 is the word room's alone.
-  pub short-then-different : compare-outcome left right work pairs word budget .tells .says ≡ word-room-short n
+  pub short-then-different : compare-outcome left right work pairs word budget .tells .says ≡ word-room-short 10 n
       → WordWritten n (compare-outcome left right work pairs word budget) (compare-outcome left right work pairs word′ budget)
   unfolding compare-outcome
   short-then-different e = standing-then (compare-standing left right work pairs) e

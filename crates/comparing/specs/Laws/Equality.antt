@@ -37,7 +37,7 @@ related-equal (repeats r) = star-equal (related-equal r)
 -- The verdicts that say that the languages differ.
 data Differs : Verdict → Type 0 where
   by-word : (length : ℕ) (left-has : Bool) → Differs (are-different length left-has)
-  by-length : (wanted : ℕ) → Differs (word-room-short wanted)
+  by-length : (number wanted : ℕ) → Differs (word-room-short number wanted)
 
 -- Of equal languages no word of bytes is in exactly one.
 none-in-one : {A B : Language} → Equal A B → {word : Word} → Bytes word → {left-has : Bool} → OnlyOne A B word left-has → ⊥
@@ -57,6 +57,6 @@ module _ (left right : List ℕ) (lefts : Bytes left) (rights : Bytes right) (re
       never (related-equal related) (compare-true left right lefts rights work pairs word budget) (subst Differs (sym e) (by-word n side))
 
   -- .. nor number 10, which says that the languages differ too.
-  pub never-short : (n : ℕ) → compare-outcome left right work pairs word budget .tells .says ≡ word-room-short n → ⊥
-  never-short n e =
-      never (related-equal related) (compare-true left right lefts rights work pairs word budget) (subst Differs (sym e) (by-length n))
+  pub never-short : (number n : ℕ) → compare-outcome left right work pairs word budget .tells .says ≡ word-room-short number n → ⊥
+  never-short number n e =
+      never (related-equal related) (compare-true left right lefts rights work pairs word budget) (subst Differs (sym e) (by-length number n))

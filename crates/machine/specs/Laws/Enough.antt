@@ -22,7 +22,7 @@ abbrev pub final-says : Verdict → Bool
 final-says are-same = true
 final-says (are-different length left-has) = true
 final-says (refused-by number) = false
-final-says (word-room-short wanted) = false
+final-says (word-room-short number wanted) = false
 
 -- The second tells what the first tells, and has what stands beside it.
 pub data AlsoOutcome {Has Row : Type 0} (Beside : Has → Has → Type 0) : Outcome Has Row → Outcome Has Row → Type 0 where

@@ -8,6 +8,7 @@ use mathlib.Core.Path.{_≡_, refl, _∙_, ap}
 use lib.Dec.{ltb}
 use borrow.Author.Tests.{ltb-true, ltb-false, le-ltb}
 use lib.ListN.{length}
+use Rattle.refusals.specs.Numbers.{short-word-room}
 use Rattle.answers.specs.Comparing.{Verdict, are-same, are-different, refused-by, word-room-short}
 use Rattle.machine.specs.Laws.Search.{Search, same, different, stopped}
 
@@ -22,7 +23,7 @@ pub record Outcome (Has Row : Type 0) : Type 0 where
 abbrev pub of-word : {Has Row : Type 0} → List ℕ → Bool → Has → List Row → Bool → Outcome Has Row
 of-word {Has} {Row} word left-has h table short =
     elim short as (λ _. Outcome Has Row) [
-      | true ↦ record { says = word-room-short (length word); has = h; table = table; written = [] }
+      | true ↦ record { says = word-room-short short-word-room (length word); has = h; table = table; written = [] }
       | false ↦ record { says = are-different (length word) left-has; has = h; table = table; written = word }
     ]
 
@@ -57,11 +58,11 @@ pub record WordWanted {Has Row : Type 0} (room wanted : ℕ) (s : Search Has Row
   pub long : length word ≡ wanted
   pub short : room < wanted
 
-pub at-10 : {Has Row : Type 0} (room wanted : ℕ) (s : Search Has Row) → of-search room s .says ≡ word-room-short wanted → WordWanted room wanted s
+pub at-10 : {Has Row : Type 0} (room wanted : ℕ) (s : Search Has Row) → of-search room s .says ≡ word-room-short short-word-room wanted → WordWanted room wanted s
 at-10 room wanted (same h table) e = let z : _≡_ {A = ℕ} 0 1 = cc in absurd (omega arith)
 at-10 room wanted (different word left-has h table) e = go (ltb room (length word)) refl e
   where
-    go : (short : Bool) → ltb room (length word) ≡ short → of-word word left-has h table short .says ≡ word-room-short wanted → WordWanted room wanted (different word left-has h table)
+    go : (short : Bool) → ltb room (length word) ≡ short → of-word word left-has h table short .says ≡ word-room-short short-word-room wanted → WordWanted room wanted (different word left-has h table)
     go true t e =
         let long : length word ≡ wanted = cc in
         let less = ltb-true room (length word) t in
@@ -76,12 +77,12 @@ pub record WordWritten {Has Row : Type 0} (wanted : ℕ) (o o′ : Outcome Has R
   pub long : length word ≡ wanted
   pub is : o′ ≡ record { says = are-different wanted left-has; has = o .has; table = o .table; written = word }
 
-pub short-then-written : {Has Row : Type 0} (room room′ wanted : ℕ) (s : Search Has Row) → of-search room s .says ≡ word-room-short wanted → wanted ≤ room′
+pub short-then-written : {Has Row : Type 0} (room room′ wanted : ℕ) (s : Search Has Row) → of-search room s .says ≡ word-room-short short-word-room wanted → wanted ≤ room′
     → WordWritten wanted (of-search room s) (of-search room′ s)
 short-then-written room room′ wanted (same h table) e l = let z : _≡_ {A = ℕ} 0 1 = cc in absurd (omega arith)
 short-then-written room room′ wanted (different word left-has h table) e l = go (ltb room (length word)) e
   where
-    go : (short : Bool) → of-word word left-has h table short .says ≡ word-room-short wanted
+    go : (short : Bool) → of-word word left-has h table short .says ≡ word-room-short short-word-room wanted
         → WordWritten wanted (of-word word left-has h table short) (of-search room′ (different word left-has h table))
     go true e =
         let long : length word ≡ wanted = cc in

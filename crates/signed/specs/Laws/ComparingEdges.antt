@@ -40,7 +40,7 @@ unfolding compare-outcome compare-standing tried open-both pattern-card examined
 empty-word-fits = refl
 
 -- .. and a word of one letter gets 10 with the length wanted.
-pub word-finds-no-room : compare-outcome a a-twice work pairs 0 100 .tells ≡ record { says = word-room-short 1; pairs = 1; places = 4; visits = 3 }
+pub word-finds-no-room : compare-outcome a a-twice work pairs 0 100 .tells ≡ record { says = word-room-short 10 1; pairs = 1; places = 4; visits = 3 }
 unfolding compare-outcome compare-standing tried open-both pattern-card examined records-standing records first-records mentions those-below load load-after make intern find find-from derive derive-to search take-pairs by-letters stands-in word-to
 word-finds-no-room = refl
 
