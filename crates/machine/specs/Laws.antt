@@ -13,6 +13,7 @@ pub mod Ends
 pub mod Meaning
 pub mod Again
 pub mod Cost
+pub mod Progress
 pub mod Outcome
 pub mod Enough
 pub mod Pass

@@ -11,6 +11,7 @@ pub mod Rules
 pub mod Growing
 pub mod Building
 pub mod Sets
+pub mod Grouping
 pub mod OnePlace
 pub mod Meaning
 pub mod Making

@@ -68,16 +68,18 @@ each-set P c Sequence e = absurd (false≢true e)
 each-set P c Repeat e = absurd (false≢true e)
 each-set P c Unknown e = absurd (false≢true e)
 
--- Choices are sets, and two of them are merged whatever their places.
+-- Choices are sets.
 pub choice-set : SetKind choice-kind
 choice-set = record { is = refl }
 
+-- A kind of sets of which two are merged whatever their places: every kind of sets is one.
 pub record AlwaysMerged (kind : ℕ) : Type 0 where
   pub set : SetKind kind
   pub merges : (left right : ℕ) → rule (kind-of kind) left right ≡ Merges
 
-pub choice-merged : AlwaysMerged choice-kind
-choice-merged = record { set = choice-set; merges = λ left right. refl }
+pub set-merged : {kind : ℕ} → SetKind kind → AlwaysMerged kind
+set-merged {kind} s =
+    record { set = s; merges = each-set (λ (k : Kind). (left right : ℕ) → rule k left right ≡ Merges) (λ left right. refl) (kind-of kind) (s .is) }
 
 -- Where two are merged the kind is one of sets ..
 pub merged-kind : (kind left right : ℕ) → rule (kind-of kind) left right ≡ Merges → SetKind kind
