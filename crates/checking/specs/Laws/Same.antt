@@ -152,8 +152,8 @@ same-table {letters} {room} {pairs} {x} {y} {store₀ = store₀} {store} {table
       inside = inside;
       good = g;
     }))
-same-table e (ends-different _ _ _ _ _ _) = let z : _≡_ {A = ℕ} 0 1 = cc in absurd (omega arith)
-same-table e (ends-stopped _ _ _) = let z : _≡_ {A = ℕ} 0 1 = cc in absurd (omega arith)
+same-table e (ends-different _ _ _ _) = let z : _≡_ {A = ℕ} 0 1 = cc in absurd (omega arith)
+same-table e ends-stopped = let z : _≡_ {A = ℕ} 0 1 = cc in absurd (omega arith)
 
 module _ (left right : List ℕ) (lefts : Bytes left) (rights : Bytes right) (work pairs budget : ℕ) {o : Comparing} (h : SameFound left right work pairs budget o) where
   found-table : SameTable (tried left right) (work / 8) (pairs / 8) (h .x) (h .y) (h .store₀) (h .store) (h .table)

@@ -42,7 +42,7 @@ module _ (left right : List ℕ) (lefts : Bytes left) (rights : Bytes right) (wo
   of-ended : {x y : ℕ} {store : List Record} {s : Search} → Ends (work / 8) (pairs / 8) (tried left right) A B x y store s → True (of-search word budget s)
   unfolding True
   of-ended (ends-same kept over inside good fits) = same-true (equal-of-tried (tried left right) A B (tried-represent left right lefts rights) over)
-  of-ended (ends-different {word = w} {left-has} {store = s} {table} {budget = b} kept o one before short fits) = go (ltb word (length w)) refl
+  of-ended (ends-different {word = w} {left-has} {store = s} {table} {budget = b} o one before short) = go (ltb word (length w)) refl
     where
       found : FirstWord A B w left-has (length table)
       found = record { bytes = over-wider (tried-bytes left right) o; only = one; first = first-of-all (tried left right) A B w before (tried-represent left right lefts rights); not-longer = short }
@@ -50,7 +50,7 @@ module _ (left right : List ℕ) (lefts : Bytes left) (rights : Bytes right) (wo
       go : (short : Bool) → ltb word (length w) ≡ short → True (of-word w left-has s table (budget - b) short)
       go true e = short-true w left-has found (ltb-true word (length w) e)
       go false e = different-true found (ltb-false word (length w) e)
-  of-ended (ends-stopped kept h fits) = refused-true
+  of-ended ends-stopped = refused-true
 
   -- Both cards are in good standing and the work room is legal.
   module _ (left-good : pattern-card left ≡ Good) (right-good : pattern-card right ≡ Good) (room-legal : wrong-room work ≡ false) where

@@ -4,7 +4,7 @@ use native.Mathlib.Decide.{decLt}
 use native.Mathlib.Omega.{arith}
 use mathlib.Core.List.{[], _∷_, _++_}
 use mathlib.Core.Logic.{_⊎_, inl, inr}
-use mathlib.Core.Path.{_≡_, refl, sym, _∙_, ap₂, subst}
+use mathlib.Core.Path.{_≡_, refl, sym, _∙_, ap, ap₂, subst}
 use lib.ListN.{length, length-append}
 use Rattle.language.specs.Word.{Word}
 use Rattle.language.specs.Order.{Lower, here, after, Before, shorter, lower}
@@ -113,3 +113,23 @@ before-fronts w v c d h = go (compared w v)
     go (same e) = inr (e, last-below v c d (subst (λ (x : Word). Before (x ++ c ∷ []) (v ++ d ∷ [])) e h))
     go (behind l) =
         absurd (before-irrefl (w ++ c ∷ []) (before-trans (w ++ c ∷ []) (v ++ d ∷ []) (w ++ c ∷ []) h (before-more v w l d c)))
+
+-- No later in the order.
+abbrev pub NotAfter : Word → Word → Type 0
+NotAfter w v = (w ≡ v) ⊎ Before w v
+
+-- One letter more keeps the order.
+pub not-after-more : (w v : Word) (c : ℕ) → NotAfter w v → NotAfter (w ++ c ∷ []) (v ++ c ∷ [])
+not-after-more w v c (inl e) = inl (ap (λ (u : Word). u ++ c ∷ []) e)
+not-after-more w v c (inr h) = inr (before-more w v h c c)
+
+-- What is no later than one that is no later, is no later.
+pub not-after-trans : (w v u : Word) → NotAfter w v → NotAfter v u → NotAfter w u
+not-after-trans w v u (inl e) h = rw (e) h
+not-after-trans w v u (inr a) (inl e) = inr (subst (Before w) e a)
+not-after-trans w v u (inr a) (inr b) = inr (before-trans w v u a b)
+
+-- What is no later than an earlier word is earlier.
+pub before-not-after : (w v u : Word) → NotAfter w v → Before v u → Before w u
+before-not-after w v u (inl e) b = rw (e) b
+before-not-after w v u (inr a) b = before-trans w v u a b

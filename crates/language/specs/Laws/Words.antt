@@ -1,6 +1,7 @@
 -- Words whose letters P names: their parts, and a larger P.
 use Prim.Native.Nat.{ℕ, zero, suc, _<_}
-use mathlib.Core.List.{[], _∷_, _++_}
+use mathlib.Core.List.{[], _∷_, _++_, append-assoc, append-nil}
+use mathlib.Core.Path.{sym, subst}
 use lib.ListN.{getD}
 use Rattle.language.specs.Word.{Word, Over, none, one, Bytes}
 
@@ -24,3 +25,23 @@ over-wider f (one {c} b h) = one (f c b) (over-wider f h)
 pub bytes-all : (s : Word) → ((i : ℕ) → getD s i 0 < 256) → Bytes s
 bytes-all [] f = none
 bytes-all (c ∷ s) f = one (f zero) (bytes-all s (λ i. f (suc i)))
+
+-- The letter of a word of one, and the last letter of a word.
+only-letter : {P : ℕ → Type 0} {d : ℕ} → Over P (d ∷ []) → P d
+only-letter (one p _) = p
+
+pub last-over : {P : ℕ → Type 0} (u : Word) (d : ℕ) → Over P (u ++ d ∷ []) → P d
+last-over u d o = only-letter (back-over u (d ∷ []) o)
+
+-- A word, from its empty front on.
+pub data Fronts : Word → Type 0 where
+  empty : Fronts []
+  longer-by : {u : Word} → Fronts u → (d : ℕ) → Fronts (u ++ d ∷ [])
+
+-- Every word is such.
+fronts-append : {u : Word} → Fronts u → (w : Word) → Fronts (u ++ w)
+fronts-append {u} f [] = subst Fronts (sym (append-nil u)) f
+fronts-append {u} f (d ∷ w) = subst Fronts (append-assoc u (d ∷ []) w) (fronts-append (longer-by f d) w)
+
+pub fronts : (w : Word) → Fronts w
+fronts w = fronts-append empty w

@@ -16,7 +16,7 @@ use Rattle.machine.specs.Laws.Price.{Priced, letters-cost, table-cost}
 module _ {State Has Row : Type 0} {M : Machine State Has Row} {S : Sense State Has} (laws : Lawful M S) (P : Priced M S) {h : Has} {list : List Row} where
   -- Two states that lead to a listed pair by each letter pass, at the cost of the letters.
   letters-pass : (n : ℕ) (x y : State) (letters : List ℕ) → ((c : ℕ) → Listed letters c → Reaches M S h list x y c) → (rest : ℕ)
-      → check-letters M list n x y letters (P .with-left h (letters-cost P h x y letters + rest)) ≡ passes (P .with-left h rest)
+      → check-letters M list n x y letters (P .with-unspent h (letters-cost P h x y letters + rest)) ≡ passes (P .with-unspent h rest)
   unfolding check-letters letters-cost
   letters-pass n x y [] f rest = rw (zero-add rest)
   letters-pass n x y (c ∷ letters) f rest =
@@ -29,7 +29,7 @@ module _ {State Has Row : Type 0} {M : Machine State Has Row} {S : Sense State H
   -- Right pairs pass, at the cost of their table.
   pairs-pass : (letters : List ℕ) (n : ℕ) (pairs : List Row)
       → ((i : ℕ) → i < length pairs → RightPair M S letters h list (M .left (row-at M pairs i)) (M .right (row-at M pairs i))) → (rest : ℕ)
-      → check-pairs M letters list n pairs (P .with-left h (table-cost P letters h pairs + rest)) ≡ accepted (P .with-left h rest)
+      → check-pairs M letters list n pairs (P .with-unspent h (table-cost P letters h pairs + rest)) ≡ accepted (P .with-unspent h rest)
   unfolding check-pairs table-cost
   pairs-pass letters n [] f rest = rw (zero-add rest)
   pairs-pass letters n (r ∷ pairs) f rest =
@@ -45,6 +45,6 @@ module _ {State Has Row : Type 0} {M : Machine State Has Row} {S : Sense State H
 
   -- A good table is accepted, at its cost.
   pub good-accepted : {letters : List ℕ} {x y : State} → GoodTable M S letters h list x y → (rest : ℕ)
-      → check-list M letters list x y (P .with-left h (table-cost P letters h list + rest)) ≡ accepted (P .with-left h rest)
+      → check-list M letters list x y (P .with-unspent h (table-cost P letters h list + rest)) ≡ accepted (P .with-unspent h rest)
   unfolding check-list
   good-accepted {letters} {x} {y} good rest = rw (stands-listed laws list x y (good .opening)) (pairs-pass letters 0 list (good .right) rest)

@@ -5,7 +5,7 @@ use Prim.Native.Nat.{ℕ, zero, suc, _+_, _<_, _≤_}
 use native.Mathlib.Omega.{arith}
 use mathlib.Core.Bool.{Bool, true, false}
 use mathlib.Core.List.{List, [], _∷_, _++_, List·Memᴰ·head, List·Memᴰ·tail}
-use mathlib.Core.Path.{_≡_, refl, sym, ap}
+use mathlib.Core.Path.{_≡_, refl}
 use lib.Dec.{ltb}
 use borrow.Author.Tests.{ltb-true, lt-ltb, le-ltb}
 use lib.ListN.{length}
@@ -215,26 +215,3 @@ module _ {State Has Row : Type 0} {M : Machine State Has Row} {S : Sense State H
   pub answer-again : {h h′ : Has} → S .Ready h → Beside h h′ → (x y : State) → S .Stands h x → S .Stands h y → {s : Search Has Row}
       → search M pairs letters x y h ≡ s → WithinSearch S end pairs′ s → AlsoSearch Beside s (search M pairs′ letters x y h′)
   answer-again ready beside x y x-stands y-stands e within = rw e at (search-again ready beside x y x-stands y-stands (rw e within))
-
--- Where what stands beside is equal, the answers are equal.
-also-equal : {Has Row : Type 0} {s s′ : Search Has Row} → AlsoSearch (λ a b. a ≡ b) s s′ → s′ ≡ s
-also-equal (also-same e) = rw e
-also-equal (also-different e) = rw e
-
--- Enough for pairs: from what the machine had, in any pair room with as many places as the table has pairs, everything comes out the same.
-module _ {State Has Row : Type 0} {M : Machine State Has Row} {S : Sense State Has} (laws : Lawful M S)
-    (letters : List ℕ) (bytes : (c : ℕ) → Listed letters c → IsByte c) (pairs pairs′ : ℕ)
-    {h : Has} (ready : S .Ready h) (x y : State) (x-stands : S .Stands h x) (y-stands : S .Stands h y) where
-  enough-pairs : (end : Has) {s : Search Has Row} → search M pairs letters x y h ≡ s → WithinSearch S end pairs′ s → search M pairs′ letters x y h ≡ s
-  enough-pairs end e within = also-equal (answer-again laws letters bytes once-more pairs pairs′ ready refl x y x-stands y-stands e within)
-    where
-      once-more : Redoing M S end (λ a b. a ≡ b)
-      once-more = record { marks = λ e x. ap (λ (h : Has). M .mark h x) (sym e); steps = λ e _ c _ x _ done _. rw (← e, done) (redone refl) }
-
-  pub enough-pairs-same : {k : Has} {table : List Row} → search M pairs letters x y h ≡ same k table → length table ≤ pairs′
-      → search M pairs′ letters x y h ≡ same k table
-  enough-pairs-same {k} e l = enough-pairs k e (within-same (record { grows = laws .grows-refl k; fits = l }))
-
-  pub enough-pairs-different : {word : List ℕ} {left-has : Bool} {k : Has} {table : List Row} → search M pairs letters x y h ≡ different word left-has k table
-      → length table ≤ pairs′ → search M pairs′ letters x y h ≡ different word left-has k table
-  enough-pairs-different {k = k} e l = enough-pairs k e (within-different (record { grows = laws .grows-refl k; fits = l }))

@@ -23,11 +23,11 @@ data IsSame {Has Row : Type 0} (k : Has) (table : List Row) : Search Has Row →
 module _ {State Has Row : Type 0} {M : Machine State Has Row} {S : Sense State Has} (P : Priced M S) where
   -- Where a part of the search goes on it has this cost.
   data CostsGoing (h : Has) (cost : ℕ) : Going Has Row → Type 0 where
-    costs-on : {k : Has} {table : List Row} → P .left h ≡ cost + P .left k → CostsGoing h cost (on k table)
+    costs-on : {k : Has} {table : List Row} → P .unspent h ≡ cost + P .unspent k → CostsGoing h cost (on k table)
     ends-anyhow : {s : Search Has Row} → CostsGoing h cost (ends s)
 
   -- What was paid before a part of the search is added to its cost.
-  paid-before : {h k : Has} (before : ℕ) {total cost : ℕ} {g : Going Has Row} → P .left h ≡ before + P .left k → total ≡ before + cost
+  paid-before : {h k : Has} (before : ℕ) {total cost : ℕ} {g : Going Has Row} → P .unspent h ≡ before + P .unspent k → total ≡ before + cost
       → CostsGoing k cost g → CostsGoing h total g
   paid-before before paid sum (costs-on {k = l} rest) = costs-on {k = l} (omega arith)
   paid-before before paid sum ends-anyhow = ends-anyhow
@@ -58,8 +58,8 @@ module _ {State Has Row : Type 0} {M : Machine State Has Row} {S : Sense State H
     where
       go : (p q r : Bool) → CostsGoing h 0 (looked (M .row x y origin letter) word (M .mark h x) h table p q r)
       go false q r = ends-anyhow
-      go true true r = costs-on (sym (zero-add (P .left h)))
-      go true false true = costs-on (sym (zero-add (P .left h)))
+      go true true r = costs-on (sym (zero-add (P .unspent h)))
+      go true false true = costs-on (sym (zero-add (P .unspent h)))
       go true false false = ends-anyhow
 
 module _ {State Has Row : Type 0} {M : Machine State Has Row} {S : Sense State Has} (laws : Lawful M S) (P : Priced M S) (pairs : ℕ) where
@@ -90,7 +90,7 @@ module _ {State Has Row : Type 0} {M : Machine State Has Row} {S : Sense State H
   by-letters-costs : (n : ℕ) (rest : List ℕ) → ((c : ℕ) → Listed rest c → IsByte c) → {h : Has} {table : List Row} → n < length table → S .Ready h
       → Tabled M S pairs h table → CostsGoing P h (row-cost P h (row-at M table n) rest) (by-letters M pairs n rest h table)
   unfolding by-letters letters-cost
-  by-letters-costs n [] bytes {h} inside ready tabled = costs-on (sym (zero-add (P .left h)))
+  by-letters-costs n [] bytes {h} inside ready tabled = costs-on (sym (zero-add (P .unspent h)))
   by-letters-costs n (c ∷ rest) bytes {h} {table} inside ready tabled =
       let byte = bytes c (List·Memᴰ·head refl) in
       go (by-letter-keeps laws n c byte inside ready tabled) (by-letter-costs n c byte inside ready tabled)
@@ -124,22 +124,22 @@ module _ {State Has Row : Type 0} {M : Machine State Has Row} {S : Sense State H
     kept-to-same (keeps-same kept) is-same = kept
 
     -- No pair left costs nothing.
-    all-taken : (n : ℕ) {h : Has} {table : List Row} → length table ≤ n → IsSame end all (same h table) → P .left h ≡ cost-from n + P .left end
+    all-taken : (n : ℕ) {h : Has} {table : List Row} → length table ≤ n → IsSame end all (same h table) → P .unspent h ≡ cost-from n + P .unspent end
     unfolding table-cost
-    all-taken n {h} l is-same = rw (drop-of-length-le all l) (sym (zero-add (P .left h)))
+    all-taken n {h} l is-same = rw (drop-of-length-le all l) (sym (zero-add (P .unspent h)))
 
     -- A part of the search of this cost, and the search from there.
     search-then-costs : (n m cost : ℕ) → cost-from n ≡ cost + cost-from m → {h : Has} {table : List Row} {g : Going Has Row}
         → KeepsGoing M S pairs h table g → CostsGoing P h cost g → (next : Has → List Row → Search Has Row)
-        → ((k : Has) (t : List Row) → KeptBoth M S pairs h table k t → IsSame end all (next k t) → P .left k ≡ cost-from m + P .left end)
-        → IsSame end all (search-after g next) → P .left h ≡ cost-from n + P .left end
+        → ((k : Has) (t : List Row) → KeptBoth M S pairs h table k t → IsSame end all (next k t) → P .unspent k ≡ cost-from m + P .unspent end)
+        → IsSame end all (search-after g next) → P .unspent h ≡ cost-from n + P .unspent end
     search-then-costs n m cost split (keeps-on {k} {table′ = t} kept) (costs-on paid) next costs ends-same =
         let rest = costs k t kept ends-same in
         omega arith
 
     -- The pairs from number n on, with turns enough.
     take-pairs-costs : (turns n : ℕ) → pairs ≤ n + turns → {h : Has} {table : List Row} → S .Ready h → Tabled M S pairs h table
-        → IsSame end all (take-pairs M turns pairs letters n h table) → P .left h ≡ cost-from n + P .left end
+        → IsSame end all (take-pairs M turns pairs letters n h table) → P .unspent h ≡ cost-from n + P .unspent end
     unfolding take-pairs
     take-pairs-costs zero n enough ready tabled ends-same = all-taken n (let fits = tabled .fits in omega arith) ends-same
     take-pairs-costs (suc turns) n enough {h} {table} ready tabled ends-same =
@@ -149,9 +149,9 @@ module _ {State Has Row : Type 0} {M : Machine State Has Row} {S : Sense State H
       where
         go : (b : Bool) → ltb n (length table) ≡ b → KeptBoth M S pairs h table end all
             → ((k : Has) (t : List Row) → KeptBoth M S pairs h table k t → IsSame end all (take-pairs M turns pairs letters (suc n) k t)
-            → P .left k ≡ cost-from (suc n) + P .left end)
+            → P .unspent k ≡ cost-from (suc n) + P .unspent end)
             → IsSame end all (turned b (by-letters M pairs n letters h table) (take-pairs M turns pairs letters (suc n)) h table)
-            → P .left h ≡ cost-from n + P .left end
+            → P .unspent h ≡ cost-from n + P .unspent end
         go true e kept costs =
             let inside = ltb-true n (length table) e in
             search-then-costs n (suc n) (row-cost P h (row-at M table n) letters) (cost-split n inside tabled kept)
@@ -161,7 +161,7 @@ module _ {State Has Row : Type 0} {M : Machine State Has Row} {S : Sense State H
 
   -- The search from the opening pair.
   pub same-cost : (letters : List ℕ) (bytes : (c : ℕ) → Listed letters c → IsByte c) (x y : State) {h : Has} → S .Ready h → S .Stands h x → S .Stands h y
-      → {k : Has} {table : List Row} → search M pairs letters x y h ≡ same k table → P .left h ≡ table-cost P letters k table + P .left k
+      → {k : Has} {table : List Row} → search M pairs letters x y h ≡ same k table → P .unspent h ≡ table-cost P letters k table + P .unspent k
   unfolding search
   same-cost letters bytes x y {h} ready x-stands y-stands {k} {table} e =
       search-then-costs letters bytes k table 0 0 0 (sym (zero-add (table-cost P letters k table)))

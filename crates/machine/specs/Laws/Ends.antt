@@ -21,7 +21,6 @@ use Rattle.machine.specs.Laws.Machine.{Stepped, Machine, Sense, Lawful, 
 use Rattle.machine.specs.Laws.Search.{Search, same, different, stopped, Going, on, ends, after-going, search-after, after-step, turned, looked, row-at, word-to, word-of, stands-in, marks-agree, look, by-letter, by-letters, take-pairs, search}
 use Rattle.machine.specs.Laws.Words.{word-short}
 use Rattle.machine.specs.Laws.Table.{stands-at}
-use Rattle.machine.specs.Laws.Keeps.{Halts, machine-stops, no-free-pair}
 use Rattle.machine.specs.Laws.Frontier.{Earlier, lower-pair, letter-done, Entry, Frontier, means-more, frontier-grows, letter-leads, pair-taken, words-before, pair-placed, covered}
 
 -- What two marks tell of a word: whether it is in the left language, and whether in the right.
@@ -46,7 +45,6 @@ pub data Ends {State Has Row : Type 0} (M : Machine State Has Row) (S : Sense St
       → length word ≤ length table → length table ≤ pairs
       → Ends M S pairs letters A B x₀ y₀ h₀ (different word left-has h table)
   ends-stopped : {number : ℕ} {h : Has} {table : List Row} → S .Grows h₀ h → S .Ready h
-      → Halts S pairs h table number → length table ≤ pairs
       → Ends M S pairs letters A B x₀ y₀ h₀ (stopped number h table)
 
 -- Of two marks that differ the second is the other one.
@@ -187,8 +185,7 @@ module _ {State Has Row : Type 0} {M : Machine State Has Row} {S : Sense State H
           go true p true q free _ = present q
           go true p false q true free = placed (beq-tells (M .mark h x) (M .mark h y) .sound p) (ltb-true (length table) pairs free)
           go true p false q false free =
-              let full : length table ≡ pairs = let m = ltb-false (length table) pairs free in let k = come .fits in omega arith in
-              is-over (ends-stopped (come .grows) (come .ready) (no-free-pair full) (come .fits))
+              is-over (ends-stopped (come .grows) (come .ready))
 
     -- The pair n by one letter.
     module _ {h : Has} (come : Come h table n done) where
@@ -197,8 +194,8 @@ module _ {State Has Row : Type 0} {M : Machine State Has Row} {S : Sense State H
       right-then x s = after-step table s (λ y h₂. look M pairs x y n c word h₂ table)
 
       -- A step that stops.
-      halts : {number : ℕ} {k : Has} → S .Grows h k → S .Ready k → S .Stops k number → Goes n (done ++ c ∷ []) (ends (stopped number k table))
-      halts g ready why = is-over (ends-stopped (laws .grows-trans (come .grows) g) ready (machine-stops why) (come .fits))
+      halts : {number : ℕ} {k : Has} → S .Grows h k → S .Ready k → Goes n (done ++ c ∷ []) (ends (stopped number k table))
+      halts g ready = is-over (ends-stopped (laws .grows-trans (come .grows) g) ready)
 
       -- The left has made its step; the right makes its own, and the pair reached is looked at.
       right-law : {x : State} {k : Has} → S .Grows h k → S .Ready k → S .Stands k x → S .Leads k c left-state x → {s : Stepped State Has} → StepLaw S k c right-state s
@@ -218,13 +215,13 @@ module _ {State Has Row : Type 0} {M : Machine State Has Row} {S : Sense State H
           y-stands
           (laws .leads-kept ready₁ g₂ c (bytes c listed) left-state (laws .stands-kept g₁ left-state (come .frontier .entry n inside .left-stands)) x x-led)
           y-led
-      right-law g₁ ready₁ x-stands x-led (was-halted g₂ ready₂ why) = halts (laws .grows-trans g₁ g₂) ready₂ why
+      right-law g₁ ready₁ x-stands x-led (was-halted g₂ ready₂ why) = halts (laws .grows-trans g₁ g₂) ready₂
 
       -- The left makes its step.
       left-law : {s : Stepped State Has} → StepLaw S h c left-state s → Goes n (done ++ c ∷ []) (after-step table s (λ x h₁. right-then x (M .step c right-state h₁)))
       left-law (was-stepped g ready x-stands x-led) =
           right-law g ready x-stands x-led (laws .step-law ready c (bytes c listed) right-state (laws .stands-kept g right-state (come .frontier .entry n inside .right-stands)))
-      left-law (was-halted g ready why) = halts g ready why
+      left-law (was-halted g ready why) = halts g ready
 
       -- Both, in turn.
       letter-law : Goes n (done ++ c ∷ []) (by-letter M pairs n c h table)
@@ -323,8 +320,7 @@ module _ {State Has Row : Type 0} {M : Machine State Has Row} {S : Sense State H
           (omega arith)
           (omega arith)
       go true p false q =
-          let full : 0 ≡ pairs = let m = ltb-false 0 pairs q in omega arith in
-          ends-stopped {table = []} still ready₀ (no-free-pair full) (omega arith)
+          ends-stopped {table = []} still ready₀
       go true p true q =
           pairs-law pairs 0 (omega arith)
           (record {

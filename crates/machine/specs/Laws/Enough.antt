@@ -81,14 +81,14 @@ module _ {State Has Row : Type 0} {M : Machine State Has Row} {S : Sense State H
 
     -- A refusal comes at its moment: the machine stopped with that number, or, at 9, the pairs fill the pair room.
     pub refused-halts : (number : ℕ) → of-search word (search M pairs letters x y h) .says ≡ refused-by number
-        → Halts S pairs (of-search word (search M pairs letters x y h) .has) (of-search word (search M pairs letters x y h) .table) number
+        → Halts M S pairs (of-search word (search M pairs letters x y h) .has) (of-search word (search M pairs letters x y h) .table) number
     refused-halts number = go (search-keeps laws letters bytes x y ready x-stands y-stands)
       where
-        go : {s : Search Has Row} → KeepsSearch M S pairs h [] s → of-search word s .says ≡ refused-by number → Halts S pairs (of-search word s .has) (of-search word s .table) number
+        go : {s : Search Has Row} → KeepsSearch M S pairs h [] s → of-search word s .says ≡ refused-by number → Halts M S pairs (of-search word s .has) (of-search word s .table) number
         go (keeps-same kept) e = let z : _≡_ {A = ℕ} 0 1 = cc in absurd (omega arith)
         go (keeps-different {word = w} {left-has} {k} {table′ = t} kept) e = by (ltb word (length w)) e
           where
-            by : (short : Bool) → of-word w left-has k t short .says ≡ refused-by number → Halts S pairs (of-word w left-has k t short .has) (of-word w left-has k t short .table) number
+            by : (short : Bool) → of-word w left-has k t short .says ≡ refused-by number → Halts M S pairs (of-word w left-has k t short .has) (of-word w left-has k t short .table) number
             by true e = let z : _≡_ {A = ℕ} 0 1 = cc in absurd (omega arith)
             by false e = let z : _≡_ {A = ℕ} 0 1 = cc in absurd (omega arith)
-        go (keeps-stopped {number = n} {k} {table′ = t} kept why) e = let same-number : n ≡ number = cc in subst (Halts S pairs k t) same-number why
+        go (keeps-stopped {number = n} {k} {table′ = t} kept why) e = let same-number : n ≡ number = cc in subst (Halts M S pairs k t) same-number why

@@ -4,7 +4,7 @@
 use Prim.Native.Nat.{ℕ, zero, suc, _<_}
 use native.Mathlib.Decide.{decLt}
 use native.Mathlib.Omega.{arith}
-use mathlib.Core.List.{List, [], _∷_, _++_, append-assoc, append-nil, List·Memᴰ·head, List·Memᴰ·not-nil, List·Memᴰ·eq-of-singleton, Memᴰ·append-left, Memᴰ·append-right, List·Memᴰ·append-cases}
+use mathlib.Core.List.{List, [], _∷_, _++_, append-assoc, List·Memᴰ·head, List·Memᴰ·not-nil, List·Memᴰ·eq-of-singleton, Memᴰ·append-left, Memᴰ·append-right, List·Memᴰ·append-cases}
 use mathlib.Core.Logic.{_⊎_, inl, inr, ⊎-elim}
 use mathlib.Core.Path.{_≡_, refl, sym, _∙_, ap, subst}
 use lib.ListN.{length, length-append}
@@ -12,53 +12,13 @@ use Rattle.language.specs.Word.{Word, Over, none, one, IsByte, Listed}
 use Rattle.language.specs.Language.{Language, Equal}
 use Rattle.language.specs.Order.{Before, shorter}
 use Rattle.language.specs.Laws.Equality.{equal-trans}
-use Rattle.language.specs.Laws.Words.{over-join, front-over, back-over}
+use Rattle.language.specs.Laws.Words.{over-join, front-over, last-over, Fronts, empty, longer-by, fronts}
 use Rattle.language.specs.Laws.Quotient.{Quotient, Quotients}
 use Rattle.language.specs.Laws.Derivative.{quotient-equal}
-use Rattle.language.specs.Laws.Order.{before-irrefl, before-trans, before-more, before-last, before-fronts}
+use Rattle.language.specs.Laws.Order.{before-irrefl, before-trans, before-more, before-last, before-fronts, NotAfter, not-after-more, not-after-trans, before-not-after}
 use Rattle.machine.specs.Laws.Machine.{Machine, Sense, States, Lawful}
 use Rattle.machine.specs.Laws.Search.{row-at, word-to, word-of}
 use Rattle.machine.specs.Laws.Words.{Ordered, row-kept, row-new, word-step, word-kept, ordered-more, word-new}
-
--- No later in the order.
-abbrev pub NotAfter : Word → Word → Type 0
-NotAfter w v = (w ≡ v) ⊎ Before w v
-
--- One letter more keeps the order.
-not-after-more : (w v : Word) (c : ℕ) → NotAfter w v → NotAfter (w ++ c ∷ []) (v ++ c ∷ [])
-not-after-more w v c (inl e) = inl (ap (λ (u : Word). u ++ c ∷ []) e)
-not-after-more w v c (inr h) = inr (before-more w v h c c)
-
--- What is no later than one that is no later, is no later.
-not-after-trans : (w v u : Word) → NotAfter w v → NotAfter v u → NotAfter w u
-not-after-trans w v u (inl e) h = rw (e) h
-not-after-trans w v u (inr a) (inl e) = inr (subst (Before w) e a)
-not-after-trans w v u (inr a) (inr b) = inr (before-trans w v u a b)
-
--- What is no later than an earlier word is earlier.
-pub before-not-after : (w v u : Word) → NotAfter w v → Before v u → Before w u
-before-not-after w v u (inl e) b = rw (e) b
-before-not-after w v u (inr a) b = before-trans w v u a b
-
--- The letter of a word of one, and the last letter of a word.
-only-letter : {P : ℕ → Type 0} {d : ℕ} → Over P (d ∷ []) → P d
-only-letter (one p _) = p
-
-last-over : {P : ℕ → Type 0} (u : Word) (d : ℕ) → Over P (u ++ d ∷ []) → P d
-last-over u d o = only-letter (back-over u (d ∷ []) o)
-
--- A word, from its empty front on.
-pub data Fronts : Word → Type 0 where
-  empty : Fronts []
-  longer-by : {u : Word} → Fronts u → (d : ℕ) → Fronts (u ++ d ∷ [])
-
--- Every word is such.
-fronts-append : {u : Word} → Fronts u → (w : Word) → Fronts (u ++ w)
-fronts-append {u} f [] = subst Fronts (sym (append-nil u)) f
-fronts-append {u} f (d ∷ w) = subst Fronts (append-assoc u (d ∷ []) w) (fronts-append (longer-by f d) w)
-
-pub fronts : (w : Word) → Fronts w
-fronts w = fronts-append empty w
 
 -- The pair k by the letter d was taken before the frontier: the pair i, with the letters done there.
 pub data Earlier (i : ℕ) (done : List ℕ) (k d : ℕ) : Type 0 where

@@ -1,6 +1,5 @@
 -- What the search keeps, where it stops too: the machine only grows and stays ready, rows are only added at the end, the table stays within the pair
--- room and its states stand. It says why the search
--- stops, and asks nothing of what the pairs mean.
+-- room, its states stand, and no pair stands twice. It says why the search stops, and asks nothing of what the pairs mean.
 use Prim.Native.Nat.{ℕ, zero, suc, _-_, _<_, _≤_}
 use native.Mathlib.Decide.{decLt}
 use native.Mathlib.Omega.{arith}
@@ -10,10 +9,12 @@ use mathlib.Core.Path.{_≡_, refl, sym, _∙_, ap}
 use lib.Dec.{ltb}
 use borrow.Author.Tests.{ltb-true, ltb-false}
 use lib.ListN.{length, length-append}
+use Rattle.language.specs.Laws.Tests.{beq-tells}
 use Rattle.language.specs.Word.{IsByte, Listed}
 use Rattle.refusals.specs.Numbers.{no-place-for-pair}
 use Rattle.machine.specs.Laws.Machine.{Stepped, Machine, Sense, StepLaw, was-stepped, was-halted, Lawful}
-use Rattle.machine.specs.Laws.Search.{Search, same, different, stopped, Going, on, ends, after-going, search-after, after-step, turned, looked, row-at, word-of, stands-in, marks-agree, look, by-letter, by-letters, take-pairs, search}
+use Rattle.machine.specs.Laws.Search.{Search, same, different, stopped, Going, on, ends, after-going, search-after, after-step, turned, looked, row-at, word-of, stands-in, StandsAt, marks-agree, look, by-letter, by-letters, take-pairs, search}
+use Rattle.machine.specs.Laws.Table.{stands-nowhere}
 use Rattle.machine.specs.Laws.Words.{Ordered, row-kept, row-new, ordered-more}
 
 -- The second table is the first with rows added at the end.
@@ -65,10 +66,19 @@ module _ {State Has Row : Type 0} (M : Machine State Has Row) where
   abbrev pub right-next : ℕ → ℕ → ℕ → List Row → State → Has → Going Has Row
   right-next pairs n c table x k = after-step table (M .step c (M .right (row-at M table n)) k) (look-next pairs n c table x)
 
+-- An agreeing new pair: its states stand, their marks agree, and they are no row of the table.
+pub record NewPair {State Has Row : Type 0} (M : Machine State Has Row) (S : Sense State Has) (h : Has) (table : List Row) : Type 0 where
+  pub left : State
+  pub right : State
+  pub left-stands : S .Stands h left
+  pub right-stands : S .Stands h right
+  pub agree : M .mark h left ≡ M .mark h right
+  pub unlisted : StandsAt M table left right → ⊥
+
 -- Why a search stops: a step stops, or the pair room has no space for an agreeing new pair.
-pub data Halts {State Has Row : Type 0} (S : Sense State Has) (pairs : ℕ) (h : Has) (table : List Row) : ℕ → Type 0 where
-  machine-stops : {number : ℕ} → S .Stops h number → Halts S pairs h table number
-  no-free-pair : length table ≡ pairs → Halts S pairs h table no-place-for-pair
+pub data Halts {State Has Row : Type 0} (M : Machine State Has Row) (S : Sense State Has) (pairs : ℕ) (h : Has) (table : List Row) : ℕ → Type 0 where
+  machine-stops : {number : ℕ} → S .Stops h number → Halts M S pairs h table number
+  no-free-pair : NewPair M S h table → length table ≡ pairs → Halts M S pairs h table no-place-for-pair
 
 module _ {State Has Row : Type 0} (M : Machine State Has Row) (S : Sense State Has) (pairs : ℕ) where
   -- A table of a machine: its states stand, each pair comes from one with a lower number, its letters are bytes, and it fits the pair room.
@@ -77,6 +87,8 @@ module _ {State Has Row : Type 0} (M : Machine State Has Row) (S : Sense State H
     pub ordered : Ordered M table
     pub origins : (n : ℕ) → n < length table → M .origin (row-at M table n) ≤ n
     pub letters : (n : ℕ) → n < length table → IsByte (M .letter (row-at M table n))
+    pub distinct : (n m : ℕ) → n < m → m < length table → M .left (row-at M table n) ≡ M .left (row-at M table m)
+        → M .right (row-at M table n) ≡ M .right (row-at M table m) → ⊥
     pub fits : length table ≤ pairs
 
   -- What a part of the search leaves, where it ends too.
@@ -90,14 +102,14 @@ module _ {State Has Row : Type 0} (M : Machine State Has Row) (S : Sense State H
   pub data KeepsSearch (h : Has) (table : List Row) : Search Has Row → Type 0 where
     keeps-same : {k : Has} {table′ : List Row} → KeptBoth h table k table′ → KeepsSearch h table (same k table′)
     keeps-different : {word : List ℕ} {left-has : Bool} {k : Has} {table′ : List Row} → KeptBoth h table k table′ → KeepsSearch h table (different word left-has k table′)
-    keeps-stopped : {number : ℕ} {k : Has} {table′ : List Row} → KeptBoth h table k table′ → Halts S pairs k table′ number → KeepsSearch h table (stopped number k table′)
+    keeps-stopped : {number : ℕ} {k : Has} {table′ : List Row} → KeptBoth h table k table′ → Halts M S pairs k table′ number → KeepsSearch h table (stopped number k table′)
 
   -- A part of the search that ends by itself ends with "different" or stops; "same" comes only when every pair has been taken.
   pub data KeepsGoing (h : Has) (table : List Row) : Going Has Row → Type 0 where
     keeps-on : {k : Has} {table′ : List Row} → KeptBoth h table k table′ → KeepsGoing h table (on k table′)
     keeps-ends-different : {word : List ℕ} {left-has : Bool} {k : Has} {table′ : List Row} → KeptBoth h table k table′
         → KeepsGoing h table (ends (different word left-has k table′))
-    keeps-ends-stopped : {number : ℕ} {k : Has} {table′ : List Row} → KeptBoth h table k table′ → Halts S pairs k table′ number
+    keeps-ends-stopped : {number : ℕ} {k : Has} {table′ : List Row} → KeptBoth h table k table′ → Halts M S pairs k table′ number
         → KeepsGoing h table (ends (stopped number k table′))
 
   -- The empty table.
@@ -108,6 +120,7 @@ module _ {State Has Row : Type 0} (M : Machine State Has Row) (S : Sense State H
         ordered = record { lower = λ n l. absurd (omega arith) };
         origins = λ n l. absurd (omega arith);
         letters = λ n l. absurd (omega arith);
+        distinct = λ n m l k. absurd (omega arith);
         fits = omega arith;
       }
 
@@ -122,6 +135,7 @@ module _ {State Has Row : Type 0} {M : Machine State Has Row} {S : Sense State H
         ordered = t .ordered;
         origins = t .origins;
         letters = t .letters;
+        distinct = t .distinct;
         fits = t .fits;
       }
 
@@ -150,37 +164,59 @@ module _ {State Has Row : Type 0} {M : Machine State Has Row} {S : Sense State H
     abbrev reached : Row
     reached = M .row x y origin letter
 
-    placed : length table < pairs → Tabled M S pairs h (table ++ reached ∷ [])
-    placed free =
+    apart : (StandsAt M table x y → ⊥) → (m : ℕ) → m < length (table ++ reached ∷ []) → (n : ℕ) → n < m
+        → M .left (row-at M (table ++ reached ∷ []) n) ≡ M .left (row-at M (table ++ reached ∷ []) m)
+        → M .right (row-at M (table ++ reached ∷ []) n) ≡ M .right (row-at M (table ++ reached ∷ []) m) → ⊥
+    apart new =
+        each-row M table reached
+        (λ m r. (n : ℕ) → n < m → M .left (row-at M (table ++ reached ∷ []) n) ≡ M .left r → M .right (row-at M (table ++ reached ∷ []) n) ≡ M .right r → ⊥)
+        (λ m k n l. rw (row-kept M table (reached ∷ []) n (omega arith)) (tabled .distinct n m l k))
+        (λ n l.
+        rw (row-kept M table (reached ∷ []) n l, laws .row-left x y origin letter, laws .row-right x y origin letter)
+        (λ e f. new (record { at = n; inside = l; states = record { left = e; right = f } })))
+
+    placed : (StandsAt M table x y → ⊥) → length table < pairs → Tabled M S pairs h (table ++ reached ∷ [])
+    placed new free =
         record {
           stands = each-row M table reached (λ _ r. S .Stands h (M .left r) × S .Stands h (M .right r)) (tabled .stands)
               (rw (laws .row-left x y origin letter) x-stands, rw (laws .row-right x y origin letter) y-stands);
           ordered = ordered-next M table reached (tabled .ordered) (rw (laws .row-origin x y origin letter) from);
           origins = each-row M table reached (λ n r. M .origin r ≤ n) (tabled .origins) (omega (arith, laws .row-origin x y origin letter));
           letters = each-row M table reached (λ _ r. IsByte (M .letter r)) (tabled .letters) (rw (laws .row-letter x y origin letter) byte);
+          distinct = λ n m l k. apart new m k n l;
           fits = omega (arith, length-next table reached);
         }
 
     pub look-keeps : KeepsGoing M S pairs h table (look M pairs x y origin letter word h table)
-    look-keeps = go (marks-agree M h x y) (stands-in M table x y) (ltb (length table) pairs) refl
+    look-keeps = go (marks-agree M h x y) refl (stands-in M table x y) refl (ltb (length table) pairs) refl
       where
         unchanged : KeptBoth M S pairs h table h table
         unchanged = kept-both-refl ready tabled
 
-        go : (p q r : Bool) → ltb (length table) pairs ≡ r → KeepsGoing M S pairs h table (looked reached word (M .mark h x) h table p q r)
-        go false q r _ = keeps-ends-different unchanged
-        go true true r _ = keeps-on unchanged
-        go true false true e =
+        go : (p : Bool) → marks-agree M h x y ≡ p → (q : Bool) → stands-in M table x y ≡ q → (r : Bool) → ltb (length table) pairs ≡ r → KeepsGoing M S pairs h table (looked reached word (M .mark h x) h table p q r)
+        go false _ q _ r _ = keeps-ends-different unchanged
+        go true _ true _ r _ = keeps-on unchanged
+        go true a false s true e =
             keeps-on
             (record {
               grows = laws .grows-refl h;
               ready = ready;
               extends = record { more = reached ∷ []; is = refl };
-              tabled = placed (ltb-true (length table) pairs e);
+              tabled = placed (stands-nowhere laws table x y s) (ltb-true (length table) pairs e);
             })
-        go true false false e =
+        go true a false s false e =
             let full : length table ≡ pairs = let l = ltb-false (length table) pairs e in let m = tabled .fits in omega arith in
-            keeps-ends-stopped unchanged (no-free-pair full)
+            keeps-ends-stopped unchanged
+            (no-free-pair
+            (record {
+              left = x;
+              right = y;
+              left-stands = x-stands;
+              right-stands = y-stands;
+              agree = beq-tells _ _ .sound a;
+              unlisted = stands-nowhere laws table x y s;
+            })
+            full)
 
   -- A step leaves the table as it was; then a part of the search from the state it comes to.
 

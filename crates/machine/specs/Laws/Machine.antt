@@ -1,5 +1,5 @@
--- A machine, for the search and the checker: its states, what it has, and its steps. A store that grows is what one machine has and its places are
--- the states; another has nothing that changes, and its states are sets of letters.
+-- A machine, for the search and the checker: its states, what it has, and its steps. A store that grows is what one machine has, and its places are
+-- the states. Both sides of a pair are states of one machine: where the two have steps of their own, a state says whose it is.
 --   Machine   what is computed: marks, steps, and the rows of a table of pairs
 --   Sense     what is meant: the language that a state accepts, when a machine has grown, where a step leads, why one stops
 --   Lawful    what must hold of both for the laws of the search and of the checker

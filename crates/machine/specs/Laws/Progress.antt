@@ -99,6 +99,7 @@ module _ {State Has Row : Type 0} {M : Machine State Has Row} {S : Sense State H
         ordered = t .ordered;
         origins = t .origins;
         letters = t .letters;
+        distinct = t .distinct;
         fits = let l = t .fits in omega arith;
       }
 

@@ -1,13 +1,13 @@
 -- A small machine, to show that the laws hold water: nine states given by a table, two letters, and so many steps to make, after which it stops by 8.
--- From state 0 and from state 3 it accepts the words of any number of `ab`; from state 7 a message may stand twice: `aab` too. Searches and checks of
--- these states are computed, and the laws of the search and of the checker hold of them.
-use Prim.Native.Nat.{ℕ, zero, suc, _<_, _≤_}
+-- From state 0 and from state 3 it accepts the words of any number of `ab`; from state 7 more than one `a` may stand before each `b`. Searches and checks
+-- of these states are computed, and the laws of the search and of the checker hold of them.
+use Prim.Native.Nat.{ℕ, zero, suc, _+_, _<_, _≤_}
 use native.Mathlib.Nat.{le-refl}
 use native.Mathlib.Omega.{arith}
 use mathlib.Core.Bool.{Bool, true, false, _&&_}
 use mathlib.Core.List.{List, [], _∷_, _++_, List·Memᴰ·cases-cons, List·Memᴰ·not-nil, List·Memᴰ·eq-of-singleton}
 use mathlib.Core.Logic.{_⊎_, inl, inr, ⊎-elim}
-use mathlib.Core.Path.{_≡_, refl, sym, _∙_}
+use mathlib.Core.Path.{_≡_, refl, sym, _∙_, ap}
 use lib.Dec.{eqb}
 use borrow.Author.Tests.{eqb-true, eq-eqb}
 use lib.ListN.{getD}
@@ -17,11 +17,19 @@ use Rattle.language.specs.Order.{Before}
 use Rattle.language.specs.Laws.Equality.{equal-refl}
 use Rattle.language.specs.Laws.Rising.{Rising, none-rise, rises}
 use Rattle.language.specs.Laws.Tests.{and-left, and-right, and-both}
+use Rattle.answers.specs.Comparing.{word-room-short}
 use Rattle.answers.specs.Checking.{at-opening, at-marks, at-letter}
 use Rattle.refusals.specs.Numbers.{no-budget-left, no-place-for-pair}
 use Rattle.machine.specs.Laws.Machine.{Stepped, stepped, halted, Machine, Sense, StepLaw, was-stepped, was-halted, Lawful}
-use Rattle.machine.specs.Laws.Search.{same, different, stopped, search}
+use Rattle.machine.specs.Laws.Search.{Search, same, different, stopped, search}
 use Rattle.machine.specs.Laws.Check.{accepted, rejected, cut-off, check-list}
+use Rattle.machine.specs.Laws.Redoing.{Redone, redone, Redoing}
+use Rattle.machine.specs.Laws.Price.{Priced, table-cost}
+use Rattle.machine.specs.Laws.Keeps.{Halts}
+use Rattle.machine.specs.Laws.Again.{AlsoSearch, within-same, answer-again}
+use Rattle.machine.specs.Laws.Cost.{same-cost}
+use Rattle.machine.specs.Laws.Outcome.{of-search, WordWanted, at-10}
+use Rattle.machine.specs.Laws.Enough.{refused-halts}
 use Rattle.machine.specs.Laws.Ends.{Marked, Agreed, Ends, ends-same, ends-different, search-law}
 use Rattle.machine.specs.Laws.Meaning.{same-over, good-over}
 use Rattle.machine.specs.Laws.Pass.{CheckLaw, was-accepted, check-law}
@@ -174,10 +182,17 @@ pub one-step-short : search small 5 (a ∷ b ∷ []) 0 3 19 ≡ stopped no-budge
 unfolding search next mark-of table
 one-step-short = refl
 
--- The tidied states 7 and 8 let a message stand twice: `aab` is theirs alone.
+-- State 7 differs from state 0: `aab` is in its language alone. A word room of two bytes is short of one.
 pub twice-found : search small 9 (a ∷ b ∷ []) 0 7 100 ≡ different (a ∷ a ∷ b ∷ []) false 84 (pair 0 7 0 0 ∷ pair 1 8 0 a ∷ pair 2 2 0 b ∷ pair 2 8 1 a ∷ [])
 unfolding search next mark-of
 twice-found = refl
+
+pub word-of-three : of-search 2 (search small 9 (a ∷ b ∷ []) 0 7 100) .says ≡ word-room-short 10 3
+unfolding search next mark-of
+word-of-three = refl
+
+pub three-wanted : WordWanted 2 3 (search small 9 (a ∷ b ∷ []) 0 7 100)
+three-wanted = at-10 2 3 (search small 9 (a ∷ b ∷ []) 0 7 100) word-of-three
 
 -- The table found is accepted, by as many steps, and cut off with one step less. Without its last pair it fails where that is reached; with a pair of
 -- other marks behind it, it fails there; without the opening pair, at once.
@@ -249,3 +264,61 @@ same-words-checked = go (rw table-accepted at (check-law small-lawful rising byt
   where
     go : CheckLaw small small-sense letters table 0 3 20 (accepted 0) → EqualOver (Listed letters) (Accepted 0) (Accepted 3)
     go (was-accepted grows ready good) = good-over small-lawful bytes {h = 0} tt (λ n l. (tt, tt)) good
+
+-- A refusal comes at its moment: with nineteen steps none is left, with four pairs a fifth that agrees and is new finds no place.
+
+pub none-left : Halts small small-sense 5 0 table no-budget-left
+none-left = rw one-step-short at (refused-halts small-lawful letters bytes 5 0 {h = 19} tt 0 3 tt tt no-budget-left (ap (λ (s : Search ℕ Row). of-search 0 s .says) one-step-short))
+
+-- Each step costs one, so the table costs twenty steps, and the search spent them.
+
+unfoldable pub small-priced : Priced small small-sense
+small-priced =
+    record {
+      unspent = λ h. h;
+      with-unspent = λ h n. n;
+      price = λ _ _. 1;
+      marks = λ _ _ _. refl;
+      price-kept = λ _ _ _. refl;
+      paid = λ {h} _ c _ x _ {y} {k} e. one-paid c x h y k e;
+      leads-again = λ c x y e rest. rw (one-more rest) (ap (λ (z : ℕ). stepped z rest) e);
+    }
+  where
+    one-more : (n : ℕ) → 1 + n ≡ suc n
+    one-more n = omega arith
+
+    one-paid : (c x h y k : ℕ) → step-of c x h ≡ stepped y k → h ≡ 1 + k
+    one-paid c x zero y k e = let z : _≡_ {A = ℕ} 0 1 = cc in absurd (omega arith)
+    one-paid c x (suc left) y k e = let f : left ≡ k = cc in omega arith
+
+pub twenty-steps : table-cost small-priced (a ∷ b ∷ []) 80 table ≡ 20
+unfolding table-cost small-priced table
+twenty-steps = refl
+
+pub twenty-spent : small-priced .unspent 100 ≡ table-cost small-priced (a ∷ b ∷ []) 80 table + small-priced .unspent 80
+twenty-spent = same-cost small-lawful small-priced 5 letters bytes 0 3 {h = 100} tt tt tt same-found
+
+-- With more steps or fewer it takes the same way, as long as they are enough: what is left at the end is the rest.
+
+pub record Beside (end rest h h′ : ℕ) : Type 0 where
+  pub pays : h′ + end ≡ h + rest
+
+pub small-redoing : (end rest : ℕ) → Redoing small small-sense end (Beside end rest)
+small-redoing end rest = record { marks = λ _ _. refl; steps = λ {h} {h′} b _ c _ x _ {y} {k} done g. again c x h h′ y k (b .pays) done g }
+  where
+    again : (c x h h′ y k : ℕ) → h′ + end ≡ h + rest → step-of c x h ≡ stepped y k → end ≤ k → Redone (Beside end rest) y k (step-of c x h′)
+    again c x zero h′ y k p d g = let z : _≡_ {A = ℕ} 0 1 = cc in absurd (omega arith)
+    again c x (suc h) zero y k p d g = let f : h ≡ k = cc in absurd (omega arith)
+    again c x (suc h) (suc h′) y k p d g =
+        let f : h ≡ k = cc in
+        let n : next c x ≡ y = cc in
+        let q : h′ + end ≡ k + rest = omega arith in
+        rw n (redone (record { pays = q }))
+
+-- So with any number of steps beyond twenty, and any pair room of five pairs or more.
+pub same-again : (rest pairs′ : ℕ) → 5 ≤ pairs′ → AlsoSearch (Beside 80 rest) (same 80 table) (search small pairs′ (a ∷ b ∷ []) 0 3 (20 + rest))
+unfolding table
+same-again rest pairs′ l =
+    let pays : 20 + rest + 80 ≡ 100 + rest = omega arith in
+    let enough : Beside 80 rest 100 (20 + rest) = record { pays = pays } in
+    answer-again small-lawful letters bytes (small-redoing 80 rest) 5 pairs′ {h = 100} tt enough 0 3 tt tt same-found (within-same (record { grows = le-refl 80; fits = l }))

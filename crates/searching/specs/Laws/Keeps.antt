@@ -5,7 +5,7 @@ use native.Mathlib.Nat.{le-refl}
 use native.Mathlib.Omega.{arith}
 use mathlib.Core.Bool.{Bool}
 use mathlib.Core.List.{List, []}
-use mathlib.Core.Path.{subst}
+use mathlib.Core.Path.{_≡_, subst}
 use lib.ListN.{length}
 use Rattle.language.specs.Word.{IsByte, Listed}
 use Rattle.machine.specs.Laws.Search.{Search as MachineSearch, Going as MachineGoing}
@@ -27,6 +27,7 @@ pub record Tabled (pairs : ℕ) (store : List Record) (table : List Pair) : Type
   pub ordered : Ordered table
   pub origins : (n : ℕ) → n < length table → pair-at table n .origin ≤ n
   pub letters : (n : ℕ) → n < length table → pair-at table n .letter < 256
+  pub distinct : (n m : ℕ) → n < m → m < length table → pair-at table n .left ≡ pair-at table m .left → pair-at table n .right ≡ pair-at table m .right → ⊥
   pub fits : length table ≤ pairs
 
 -- What a part of the search leaves, where it ends too.
@@ -62,6 +63,7 @@ tabled-grows t g =
       ordered = t .ordered;
       origins = t .origins;
       letters = t .letters;
+      distinct = t .distinct;
       fits = t .fits;
     }
 
@@ -88,10 +90,10 @@ abbrev MachineTabled : ℕ → Having → List Pair → Type 0
 MachineTabled pairs h table = machine.Tabled store-machine store-sense pairs h table
 
 to-machine : {pairs : ℕ} {h : Having} {table : List Pair} → Tabled pairs (h .store) table → MachineTabled pairs h table
-to-machine t = record { stands = t .inside; ordered = t .ordered; origins = t .origins; letters = t .letters; fits = t .fits }
+to-machine t = record { stands = t .inside; ordered = t .ordered; origins = t .origins; letters = t .letters; distinct = t .distinct; fits = t .fits }
 
 of-machine : {pairs : ℕ} {h : Having} {table : List Pair} → MachineTabled pairs h table → Tabled pairs (h .store) table
-of-machine t = record { inside = t .stands; ordered = t .ordered; origins = t .origins; letters = t .letters; fits = t .fits }
+of-machine t = record { inside = t .stands; ordered = t .ordered; origins = t .origins; letters = t .letters; distinct = t .distinct; fits = t .fits }
 
 pub tabled-none : (pairs : ℕ) (store : List Record) → Tabled pairs store []
 tabled-none pairs store = of-machine (machine.tabled-none store-machine store-sense pairs (having 0 store 0))

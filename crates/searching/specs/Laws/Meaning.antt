@@ -1,13 +1,12 @@
--- What the end of a search means for all words: "same" gives equal languages, by `equal-of-tried` of the language, and the word of "different" is the
--- shortest and lowest of all words of bytes that are in exactly one language. The step from tried letters to all words is the law `represented`
--- of the language.
+-- The word of "different" is the shortest and lowest of all words of bytes that are in exactly one language, not of those of tried letters alone. The
+-- step from tried letters to all words is the law `represented` of the language.
 use Prim.Native.Nat.{ℕ}
 use mathlib.Core.List.{List}
 use Rattle.language.specs.Word.{Word, Over, Bytes, Listed}
 use Rattle.language.specs.Language.{Language}
 use Rattle.language.specs.Order.{Before}
+use Rattle.language.specs.Laws.Order.{before-not-after}
 use Rattle.language.specs.Laws.StandIn.{Represented, in-neither, by-stand-in}
-use Rattle.machine.specs.Laws.Frontier.{before-not-after}
 use Rattle.searching.specs.FirstWord.{Alike}
 
 -- The word of "different" comes first of all words of bytes.

@@ -31,19 +31,16 @@ pub data Halts (room pairs : ℕ) (store : List Record) (table : List Pair) (bud
   nothing-left : budget ≡ 0 → Halts room pairs store table budget 8
   no-free-pair : length table ≡ pairs → Halts room pairs store table budget 9
 
--- How a search ends, begun in the first store with the opening pair of places x and y.
+-- What the end of a search means, begun in the first store with the opening pair of places x and y. Why a search stops is `Halts`.
 pub data Ends (room pairs : ℕ) (letters : List ℕ) (A B : Language) (x y : ℕ) (store₀ : List Record) : Search → Type 0 where
   ends-same : {k : Having} {table : List Pair} → Kept room store₀ (k .store) → EqualOver (Listed letters) A B
       → Inside store-machine store-sense k table → GoodTable store-machine store-sense letters k table x y → length table ≤ pairs
       → Ends room pairs letters A B x y store₀ (same (k .store) table (k .budget))
-  ends-different : {word : Word} {left-has : Bool} {store : List Record} {table : List Pair} {budget : ℕ} → Kept room store₀ store
-      → Over (Listed letters) word → OnlyOne A B word left-has
+  ends-different : {word : Word} {left-has : Bool} {store : List Record} {table : List Pair} {budget : ℕ} → Over (Listed letters) word → OnlyOne A B word left-has
       → ((v : Word) → Over (Listed letters) v → Before v word → Alike A B v)
-      → length word ≤ length table → length table ≤ pairs
+      → length word ≤ length table
       → Ends room pairs letters A B x y store₀ (different word left-has store table budget)
-  ends-stopped : {number : ℕ} {store : List Record} {table : List Pair} {budget : ℕ} → Kept room store₀ store
-      → Halts room pairs store table budget number → length table ≤ pairs
-      → Ends room pairs letters A B x y store₀ (stopped number store table budget)
+  ends-stopped : {number : ℕ} {store : List Record} {table : List Pair} {budget : ℕ} → Ends room pairs letters A B x y store₀ (stopped number store table budget)
 
 -- What two marks tell of a word, in the words of the promise.
 
@@ -61,11 +58,11 @@ alike a =
 pub kept-of : {h k : Having} → Grown h k → Ready (k .room) (k .store) → Kept (h .room) (h .store) (k .store)
 kept-of {k = k} g ready = record { grows = g .store; ready = subst (λ (n : ℕ). Ready n (k .store)) (g .room) ready }
 
-pub halts-of : {h k : Having} → Grown h k → {pairs : ℕ} {table : List Pair} {number : ℕ} → keeps.Halts store-sense pairs k table number
+pub halts-of : {h k : Having} → Grown h k → {pairs : ℕ} {table : List Pair} {number : ℕ} → keeps.Halts store-machine store-sense pairs k table number
     → Halts (h .room) pairs (k .store) table (k .budget) number
 halts-of g (keeps.machine-stops (no-place e)) = no-free-place (rw (← g .room) e)
 halts-of g (keeps.machine-stops (no-budget e)) = nothing-left e
-halts-of g (keeps.no-free-pair e) = no-free-pair e
+halts-of g (keeps.no-free-pair new e) = no-free-pair e
 
 module _ (room pairs : ℕ) (letters : List ℕ) (bytes : (d : ℕ) → Listed letters d → IsByte d) (A B : Language) (rising : Rising letters)
     {store : List Record} (ready : Ready room store) (x y : ℕ) (x-inside : x < length store) (y-inside : y < length store)
@@ -74,8 +71,8 @@ module _ (room pairs : ℕ) (letters : List ℕ) (bytes : (d : ℕ) → Listed l
       → Ends room pairs letters A B x y store (told s)
   ended (machine.ends-same grows r f fits) = ends-same (kept-of grows r) (same-over store-lawful bytes r f) (frontier-inside f) (same-good f) fits
   ended (machine.ends-different grows r over marked before short fits) =
-      ends-different (kept-of grows r) over (only-one _ marked) (λ v o h. alike (before v o h)) short fits
-  ended (machine.ends-stopped grows r why fits) = ends-stopped (kept-of grows r) (halts-of grows why) fits
+      ends-different over (only-one _ marked) (λ v o h. alike (before v o h)) short
+  ended (machine.ends-stopped grows r) = ends-stopped
 
   -- The search from the opening pair.
   pub search-law : Ends room pairs letters A B x y store (search room pairs letters x y store budget)

@@ -166,8 +166,8 @@ store-lawful =
 unfoldable pub store-priced : Priced store-machine store-sense
 store-priced =
     record {
-      left = λ h. h .budget;
-      with-left = λ h n. having (h .room) (h .store) n;
+      unspent = λ h. h .budget;
+      with-unspent = λ h n. having (h .room) (h .store) n;
       price = λ h x. visits (h .store) x;
       marks = λ h n x. refl;
       price-kept = λ g x l. visits-kept (g .store) x l;
