@@ -1,5 +1,4 @@
 -- What is proved of the definitions: nothing here has to be believed, each file is checked.
 pub mod Signed
-pub mod MatchingEdges
-pub mod ComparingEdges
+pub mod Edges
 pub mod Figures

@@ -1,75 +1,53 @@
--- Cards of the patterns that document 01 signs, and document 02's P3, byte by byte: "Cards hold just the records needed, children first."
+-- Patterns as document 01 writes them, and the card of each: "Cards hold just the records needed, children first."
 use Prim.Native.Nat.{ℕ}
 use mathlib.Core.List.{List, [], _∷_, _++_}
+use lib.ListN.{length}
+use Rattle.language.specs.Language.{Pattern, nothing, empty-word, letter, choice, sequence, repeat}
+use Rattle.records.specs.declared.record.Record.{Record}
+use Rattle.records.specs.Record.{run-of}
+use Rattle.records.specs.Kind.{nothing-kind, empty-word-kind, letter-kind, choice-kind, sequence-kind, repeat-kind}
+use Rattle.store.specs.declared.finding.Found.the-variants.{At, Absent}
+use Rattle.store.specs.Making.{find, new-record}
 
--- Records by kind: nothing, the empty word, a letter, and the three operators with their marks and children.
-abbrev pub nothing-card : List ℕ
-nothing-card = 0 ∷ 0 ∷ 0 ∷ 0 ∷ 0 ∷ 0 ∷ 0 ∷ 0 ∷ []
+infixr 20 _+_
+infixr 30 _·_
+infixl 40 _*
+-- Choice, sequence and repeat: `1 + a·a*` is the choice of the empty word and the sequence of `a` and the repeat of `a`.
+abbrev pub _+_ : Pattern → Pattern → Pattern
+_+_ = choice
 
-abbrev pub empty-word-card : List ℕ
-empty-word-card = 1 ∷ 0 ∷ 1 ∷ 0 ∷ 0 ∷ 0 ∷ 0 ∷ 0 ∷ []
+abbrev pub _·_ : Pattern → Pattern → Pattern
+_·_ = sequence
 
-abbrev pub letter-card : ℕ → List ℕ
-letter-card c = 2 ∷ c ∷ 0 ∷ 0 ∷ 0 ∷ 0 ∷ 0 ∷ 0 ∷ []
+abbrev pub _* : Pattern → Pattern
+_* = repeat
 
-abbrev pub choice-record : ℕ → ℕ → ℕ → List ℕ
-choice-record mark left right = 3 ∷ 0 ∷ mark ∷ 0 ∷ left ∷ 0 ∷ right ∷ 0 ∷ []
+-- The letters `a`, `b` and `h`.
+abbrev pub a : Pattern
+a = letter 97
 
-abbrev pub sequence-record : ℕ → ℕ → ℕ → List ℕ
-sequence-record mark left right = 4 ∷ 0 ∷ mark ∷ 0 ∷ left ∷ 0 ∷ right ∷ 0 ∷ []
+abbrev pub b : Pattern
+b = letter 98
 
-abbrev pub repeat-record : ℕ → List ℕ
-repeat-record child = 5 ∷ 0 ∷ 1 ∷ 0 ∷ child ∷ 0 ∷ 0 ∷ 0 ∷ []
+abbrev pub h : Pattern
+h = letter 104
 
--- The letters `a`, `b` and `h`, as a card of one record each.
-abbrev pub a : List ℕ
-a = letter-card 97
+-- A record put behind those of a card, unless it stands there; what comes next goes on from its number and the card.
+abbrev put : ℕ → ℕ → ℕ → ℕ → List Record → (ℕ → List Record → List ℕ) → List ℕ
+put kind c left right card next =
+    let r = new-record card kind c left right in elim (find card r) [ At n ↦ next n card | Absent ↦ next (length card) (card ++ r ∷ []) ]
 
-abbrev pub b : List ℕ
-b = letter-card 98
+-- A pattern's records put there, its children's first.
+unfoldable pub enter : Pattern → List Record → (ℕ → List Record → List ℕ) → List ℕ
+unfolding find
+enter nothing card next = put nothing-kind 0 0 0 card next
+enter empty-word card next = put empty-word-kind 0 0 0 card next
+enter (letter c) card next = put letter-kind c 0 0 card next
+enter (choice p q) card next = enter p card (λ x card₁. enter q card₁ (λ y card₂. put choice-kind 0 x y card₂ next))
+enter (sequence p q) card next = enter p card (λ x card₁. enter q card₁ (λ y card₂. put sequence-kind 0 x y card₂ next))
+enter (repeat p) card next = enter p card (λ x card₁. put repeat-kind 0 x 0 card₁ next)
 
-abbrev pub h : List ℕ
-h = letter-card 104
-
--- `a*`
-abbrev pub a-repeated : List ℕ
-a-repeated = a ++ repeat-record 0
-
--- `1 + a·a*`
-abbrev pub none-or-more : List ℕ
-none-or-more = empty-word-card ++ a ++ repeat-record 1 ++ sequence-record 0 1 2 ++ choice-record 1 0 3
-
--- `h + h·h`
-abbrev pub h-or-hh : List ℕ
-h-or-hh = h ++ sequence-record 0 0 0 ++ choice-record 0 0 1
-
--- `(a*)*·b`
-abbrev pub repeats-then-b : List ℕ
-repeats-then-b = a ++ repeat-record 0 ++ repeat-record 1 ++ b ++ sequence-record 0 2 3
-
--- `a·a`
-abbrev pub a-twice : List ℕ
-a-twice = a ++ sequence-record 0 0 0
-
--- `a·0`
-abbrev pub a-then-nothing : List ℕ
-a-then-nothing = a ++ nothing-card ++ sequence-record 0 0 1
-
--- `a + 1`
-abbrev pub a-or-empty : List ℕ
-a-or-empty = a ++ empty-word-card ++ choice-record 1 0 1
-
--- `0*`
-abbrev pub nothing-repeated : List ℕ
-nothing-repeated = nothing-card ++ repeat-record 0
-
--- `a + b` and `b + a`
-abbrev pub a-or-b : List ℕ
-a-or-b = a ++ b ++ choice-record 0 0 1
-
-abbrev pub b-or-a : List ℕ
-b-or-a = b ++ a ++ choice-record 0 0 1
-
--- `(a + a·a)*`
-abbrev pub once-or-twice-repeated : List ℕ
-once-or-twice-repeated = a ++ sequence-record 0 0 0 ++ choice-record 0 0 1 ++ repeat-record 2
+-- The bytes of a pattern's card.
+unfoldable pub card-of : Pattern → List ℕ
+unfolding enter run-of
+card-of p = enter p [] (λ root card. run-of card)

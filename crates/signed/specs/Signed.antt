@@ -4,95 +4,58 @@ use Prim.Native.Nat.{ℕ}
 use mathlib.Core.Bool.{true, false}
 use mathlib.Core.List.{List, [], _∷_}
 use mathlib.Core.Path.{_≡_}
+use Rattle.language.specs.Language.{Pattern, nothing as 𝟘, empty-word as 𝟙}
+use Rattle.cards.specs.Meaning.{card-pattern}
 use Rattle.matching.specs.Fits.{fits-outcome}
-use Rattle.answers.specs.Matching.{yes, no, Told as ToldOfMatch}
 use Rattle.comparing.specs.Compare.{Outcome, compare-outcome}
-use Rattle.answers.specs.Comparing.{are-same, are-different, refused-by, Told}
+use Rattle.answers.specs.declared.Match.{Match}
+use Rattle.answers.specs.declared.Match.the-variants.{Yes, No}
+use Rattle.answers.specs.declared.Comparison.{Comparison}
+use Rattle.answers.specs.declared.Comparison.the-variants.{Same, Different, Refused}
+use Rattle.answers.specs.Matching.{Told as ToldOfMatch, told as told-of-match}
+use Rattle.answers.specs.Comparing.{told}
+use Rattle.text.specs.Ascii.{ascii}
 use Rattle.jobtext.specs.Answer.{lent-work, lent-pairs, lent-word}
-use Rattle.signed.specs.Samples.{nothing-card, empty-word-card, a, h, a-repeated, none-or-more, h-or-hh, repeats-then-b, a-twice, a-then-nothing, a-or-empty, nothing-repeated, a-or-b, b-or-a, once-or-twice-repeated}
+use Rattle.signed.specs.Samples.{_+_, _·_, _*, a, b, h, card-of}
 
--- A comparison with what it tells and the word that it writes, or a match with what it tells.
+-- Two patterns compared, with the answer and the word written, or a pattern and a word, with the answer.
 pub data Case : Type 0 where
-  comparison : (left right : List ℕ) (budget : ℕ) (tells : Told) (written : List ℕ) → Case
-  match-of : (card word : List ℕ) (budget : ℕ) (tells : ToldOfMatch) → Case
+  comparison : (left right : Pattern) (budget : ℕ) (answer : Comparison) (written : List ℕ) → Case
+  match-of : (pattern : Pattern) (word : List ℕ) (budget : ℕ) (answer : Match) → Case
 
--- What a comparison comes to in the program's rooms, and a match.
-abbrev pub comparing : List ℕ → List ℕ → ℕ → Outcome
-comparing left right budget = compare-outcome left right lent-work lent-pairs lent-word budget
+-- What a comparison of two patterns' cards comes to in the program's rooms, and what a match tells.
+abbrev pub comparing : Pattern → Pattern → ℕ → Outcome
+comparing left right budget = compare-outcome (card-of left) (card-of right) lent-work lent-pairs lent-word budget
 
-abbrev pub matching : List ℕ → List ℕ → ℕ → ToldOfMatch
-matching card word budget = fits-outcome card word lent-work budget .tells
+abbrev pub matching : Pattern → List ℕ → ℕ → ToldOfMatch
+matching pattern word budget = fits-outcome (card-of pattern) word lent-work budget .tells
 
--- A case holds when it comes to the answer signed.
+-- A case holds when its cards mean its patterns, and the call comes to the answer signed.
 pub data Holds : Case → Type 0 where
-  compared : {left right : List ℕ} {budget : ℕ} {tells : Told} {written : List ℕ} → comparing left right budget .tells ≡ tells
-      → comparing left right budget .written ≡ written → Holds (comparison left right budget tells written)
-  matched : {card word : List ℕ} {budget : ℕ} {tells : ToldOfMatch} → matching card word budget ≡ tells → Holds (match-of card word budget tells)
+  compared : {left right : Pattern} {budget : ℕ} {answer : Comparison} {written : List ℕ} → card-pattern (card-of left) ≡ left → card-pattern (card-of right) ≡ right
+      → comparing left right budget .tells ≡ told answer → comparing left right budget .written ≡ written → Holds (comparison left right budget answer written)
+  matched : {pattern : Pattern} {word : List ℕ} {budget : ℕ} {answer : Match} → card-pattern (card-of pattern) ≡ pattern
+      → matching pattern word budget ≡ told-of-match answer → Holds (match-of pattern word budget answer)
 
 -- Every case of a list holds.
 pub data AllHold : List Case → Type 0 where
   none : AllHold []
   more : {c : Case} {rest : List Case} → Holds c → AllHold rest → AllHold (c ∷ rest)
 
--- The job printed in document 01: `a*` against `1 + a·a*`, same.
-abbrev pub the-job : Case
-the-job = comparison a-repeated none-or-more 100 (record { says = are-same; pairs = 2; places = 6; visits = 10 }) []
-
--- `h` against `h + h·h`: different, `hh`, only right. With budget 8: number 8.
-abbrev pub tidied : Case
-tidied = comparison h h-or-hh 100 (record { says = are-different 2 false; pairs = 2; places = 6; visits = 9 }) (104 ∷ 104 ∷ [])
-
-abbrev pub tidied-short : Case
-tidied-short = comparison h h-or-hh 8 (record { says = refused-by 8; pairs = 2; places = 6; visits = 8 }) []
-
--- `(a*)*·b` on `aa`: no; on `aab`: yes.
-abbrev pub on-aa : Case
-on-aa = match-of repeats-then-b (97 ∷ 97 ∷ []) 100 (record { says = no; places = 9; visits = 13 })
-
-abbrev pub on-aab : Case
-on-aab = match-of repeats-then-b (97 ∷ 97 ∷ 98 ∷ []) 100 (record { says = yes; places = 9; visits = 21 })
-
--- `a·a` against `a`: different, `a`.
-abbrev pub two-or-one : Case
-two-or-one = comparison a-twice a 100 (record { says = are-different 1 false; pairs = 1; places = 4; visits = 3 }) (97 ∷ [])
-
--- `a·0` against `a`: different, `a`.
-abbrev pub nothing-or-one : Case
-nothing-or-one = comparison a-then-nothing a 100 (record { says = are-different 1 false; pairs = 1; places = 3; visits = 2 }) (97 ∷ [])
-
--- `a + 1` against `a`: different, empty word.
-abbrev pub with-empty-or-without : Case
-with-empty-or-without = comparison a-or-empty a 100 (record { says = are-different 0 true; pairs = 0; places = 4; visits = 0 }) []
-
--- `0*` against `0`: different, empty word.
-abbrev pub repeat-or-nothing : Case
-repeat-or-nothing = comparison nothing-repeated nothing-card 100 (record { says = are-different 0 true; pairs = 0; places = 3; visits = 0 }) []
-
--- `1` against `0*`: same.
-abbrev pub empty-or-repeat : Case
-empty-or-repeat = comparison empty-word-card nothing-repeated 100 (record { says = are-same; pairs = 1; places = 3; visits = 0 }) []
-
--- `a + b` against `b + a`: same.
-abbrev pub either-order : Case
-either-order = comparison a-or-b b-or-a 100 (record { says = are-same; pairs = 3; places = 5; visits = 20 }) []
-
--- `(a + a·a)*` against `a*`: same.
-abbrev pub once-or-twice : Case
-once-or-twice = comparison once-or-twice-repeated a-repeated 100 (record { says = are-same; pairs = 3; places = 10; visits = 35 }) []
-
--- The list of all of them.
+-- The list: the job printed in document 01 and each starred case below it in order, and the pair of P3. `Same` tells pairs, places and visits; `Different` before
+-- them the word's length and whether the left side has it; `Refused` the number; `Yes` and `No` places and visits.
 abbrev pub cases : List Case
 cases =
-    the-job
-    ∷ tidied
-    ∷ tidied-short
-    ∷ on-aa
-    ∷ on-aab
-    ∷ two-or-one
-    ∷ nothing-or-one
-    ∷ with-empty-or-without
-    ∷ repeat-or-nothing
-    ∷ empty-or-repeat
-    ∷ either-order
-    ∷ once-or-twice
+    comparison (a *) (𝟙 + a · a *) 100 (Same 2 6 10) []
+    ∷ comparison h (h + h · h) 100 (Different 2 false 2 6 9) (ascii "hh")
+    ∷ comparison h (h + h · h) 8 (Refused 8 2 6 8) []
+    ∷ match-of ((a *) * · b) (ascii "aa") 100 (No 9 13)
+    ∷ match-of ((a *) * · b) (ascii "aab") 100 (Yes 9 21)
+    ∷ comparison (a · a) a 100 (Different 1 false 1 4 3) (ascii "a")
+    ∷ comparison (a · 𝟘) a 100 (Different 1 false 1 3 2) (ascii "a")
+    ∷ comparison (a + 𝟙) a 100 (Different 0 true 0 4 0) []
+    ∷ comparison (𝟘 *) 𝟘 100 (Different 0 true 0 3 0) []
+    ∷ comparison 𝟙 (𝟘 *) 100 (Same 1 3 0) []
+    ∷ comparison (a + b) (b + a) 100 (Same 3 5 20) []
+    ∷ comparison ((a + a · a) *) (a *) 100 (Same 3 10 35) []
     ∷ []

@@ -1,17 +1,19 @@
 -- The patterns of a list of records: each stays as it is when records are added at the end, and is its record's operator over
--- the patterns of its children, where those stand lower.
-use Prim.Native.Nat.{ℕ, _<_}
+-- the patterns of its children, where those stand lower. A card means the pattern of its last record.
+use Prim.Native.Nat.{ℕ, _-_, _<_}
+use native.Mathlib.Omega.{arith}
 use mathlib.Core.Bool.{true}
 use mathlib.Core.List.{List, [], _∷_, _++_}
 use mathlib.Core.Path.{_≡_, refl, _∙_, ap, ap₂}
-use lib.ListN.{length, take}
+use lib.ListN.{length, take, length-append}
+use lib.Seq.{getD-at}
 use Rattle.language.specs.Language.{Pattern, nothing as no-pattern}
 use Rattle.records.specs.declared.kind.Kind.{Kind}
 use Rattle.records.specs.declared.kind.Kind.the-variants.{Nothing, EmptyWord, Letter, Choice, Sequence, Repeat, Unknown}
 use Rattle.records.specs.declared.record.Record.{Record}
-use Rattle.records.specs.Record.{child}
+use Rattle.records.specs.Record.{records, child}
 use Rattle.records.specs.Kind.{kind-of, columns}
-use Rattle.cards.specs.Meaning.{operator, numbered, record-pattern, patterns}
+use Rattle.cards.specs.Meaning.{operator, numbered, record-pattern, patterns, card-pattern}
 use Rattle.cards.specs.Standing.{Line}
 use Rattle.cards.specs.Laws.Line.{left-child, right-child}
 use Rattle.cards.specs.Laws.InOrder.{in-order-more, length-in-order, value-kept, value-at, before-kept}
@@ -22,6 +24,13 @@ patterns-more = in-order-more record-pattern
 
 pub length-patterns : (rs : List Record) → length (patterns rs) ≡ length rs
 length-patterns = length-in-order record-pattern
+
+-- "the last is the root": whatever its records before the last are, a card means the pattern of the last.
+pub last-is-root : (card : List ℕ) (rs : List Record) (r : Record) → records card ≡ rs ++ r ∷ [] → card-pattern card ≡ record-pattern (patterns rs) r
+unfolding card-pattern
+last-is-root card rs r e =
+    rw (e, patterns-more rs r)
+    (getD-at (patterns rs) (record-pattern (patterns rs) r) [] no-pattern (length (rs ++ r ∷ []) - 1) (omega (arith, length-patterns rs, length-append rs (r ∷ []))))
 
 -- A pattern stays as it is when records are added.
 pub pattern-kept : (rs more : List Record) (at : ℕ) → at < length rs → numbered (patterns (rs ++ more)) at ≡ numbered (patterns rs) at
