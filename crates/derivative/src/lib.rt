@@ -13,12 +13,14 @@ use store::interning::marked_at;
 use store::making::make;
 use store::room::NOTHING_PLACE;
 ghost use mathlib.Core.Path.{_≡_};
+ghost use mathlib.Core.Bool.{cond};
 ghost use Prim.Native.Nat.{ℕ, _<_};
-ghost use Rattle.records.specs.Record.{child};
-ghost use Rattle.cards.specs.Mark.{marked};
-ghost use Rattle.store.specs.Room.{store-in, places-of};
+ghost use Rattle.store.specs.Room.{store-in, places-of, laid};
+ghost use Rattle.store.specs.Making.{after};
+ghost use Rattle.store.specs.Told.{told-making};
 ghost use Rattle.store.specs.Good.{GoodStore};
-ghost use Rattle.derivative.specs.Derivative.{price, choice-with, derive-choice, after-product, with-product, derive-sequence, derive-repeat, derive-to};
+ghost use Rattle.derivative.specs.Derivative.{price, after-product, derive-to};
+ghost use Rattle.derivative.specs.Parts.{asked, product-of, with-left, derive-parts};
 ghost use Rattle.derivative.specs.Told.{Comes, of-made};
 
 pub mod both;
@@ -32,6 +34,13 @@ pub enum Derived {
     Stopped(u8, usize, u32),
 }
 
+// What a visited record asks for. Either it is derived at once, to a place. Or its left part is derived; of its right part then two things are
+// said: whether the product of the derived left part with it is made, and whether it is derived too and the choice of both made.
+pub enum Visited {
+    Leaf(usize),
+    Parts(usize, usize, bool, bool),
+}
+
 // The derivative of a place by a letter.
 pub fn derive(room: &mut [u8], places: usize, place: usize, letter: u8, budget: u32) -> Derived
     requires { ⌜ GoodStore (now room) places ⌝ }
@@ -42,35 +51,30 @@ pub fn derive(room: &mut [u8], places: usize, place: usize, letter: u8, budget: 
     if budget < fee {
         return Derived::Stopped(NO_BUDGET_LEFT, places, budget);
     }
-    let rest = budget - fee;
-    let r = read(room, place);
-    match named(r.kind) {
-        Kind::Nothing => Derived::At(NOTHING_PLACE, places, rest),
-        Kind::EmptyWord => Derived::At(NOTHING_PLACE, places, rest),
-        Kind::Letter => Derived::At(as_mark(r.letter == letter) as usize, places, rest),
-        Kind::Choice => {
-            derive_choice(
-                room,
-                places,
-                r.left as usize,
-                r.right as usize,
-                letter,
-                rest,
-            )
-        }
-        Kind::Sequence => {
-            derive_sequence(
-                room,
-                places,
-                r.left as usize,
-                r.right as usize,
-                letter,
-                rest,
-            )
-        }
-        Kind::Repeat => derive_repeat(room, places, r.left as usize, place, letter, rest),
-        Kind::Unknown => Derived::At(NOTHING_PLACE, places, rest),
+    let remaining = budget - fee;
+    let visited = visit(room, places, place, letter);
+    match visited {
+        Visited::Leaf(next) => Derived::At(next, places, remaining),
+        Visited::Parts(left, right, product, both) => derive_parts(
+            room,
+            places,
+            left,
+            right,
+            product,
+            both,
+            letter,
+            remaining,
+        ),
     }
+}
+
+// A part, derived. What the answer takes of the stack is given back here, so that a level of these calls takes little of it.
+fn derive_part(room: &mut [u8], places: usize, place: usize, letter: u8, budget: u32) -> Derived
+    requires { ⌜ GoodStore (now room) places ⌝ }
+    requires { ⌜ place < places ⌝ }
+    ensures { λ d. ⌜ ((depth : ℕ) → place < depth → Comes (now (room .entry)) (derive-to depth (places-of (now (room .entry))) letter place (store-in (now (room .entry)) places) budget) d (now (room .exit))) ⌝ }
+{
+    derive(room, places, place, letter, budget)
 }
 
 // The price of a visit to a place.
@@ -80,68 +84,54 @@ fn price(place: usize) -> u32
     PRICE
 }
 
-// Choice: left, right, then make the choice.
-fn derive_choice(
+// Reads the record at a place, and tells what it asks for: a choice both parts and no product, a sequence the product, and the right part only if
+// the left one's mark is 1, a repeat the product with itself.
+fn visit(room: &[u8], places: usize, place: usize, letter: u8) -> Visited
+    requires { ⌜ GoodStore (now room) places ⌝ }
+    requires { ⌜ place < places ⌝ }
+    ensures { λ v. ⌜ v ≡ asked (store-in (now (room .entry)) places) letter place ⌝ }
+{
+    let r = read(room, place);
+    match named(r.kind) {
+        Kind::Nothing => Visited::Leaf(NOTHING_PLACE),
+        Kind::EmptyWord => Visited::Leaf(NOTHING_PLACE),
+        Kind::Letter => Visited::Leaf(as_mark(r.letter == letter) as usize),
+        Kind::Choice => Visited::Parts(r.left as usize, r.right as usize, false, true),
+        Kind::Sequence => Visited::Parts(
+            r.left as usize,
+            r.right as usize,
+            true,
+            marked_at(room, places, r.left as usize),
+        ),
+        Kind::Repeat => Visited::Parts(r.left as usize, place, true, false),
+        Kind::Unknown => Visited::Leaf(NOTHING_PLACE),
+    }
+}
+
+// Derives the left part, and goes on.
+fn derive_parts(
     room: &mut [u8],
     places: usize,
     left: usize,
     right: usize,
+    product: bool,
+    both: bool,
     letter: u8,
     budget: u32,
 ) -> Derived
     requires { ⌜ GoodStore (now room) places ⌝ }
     requires { ⌜ (left < places) × (right < places) ⌝ }
-    ensures { λ d. ⌜ ((depth : ℕ) → left < depth → right < depth → Comes (now (room .entry)) (derive-choice (λ p s b. derive-to depth (places-of (now (room .entry))) letter p s b) (places-of (now (room .entry))) left right (store-in (now (room .entry)) places) budget) d (now (room .exit))) ⌝ }
+    ensures { λ d. ⌜ ((depth : ℕ) → left < depth → cond both right 0 < depth → Comes (now (room .entry)) (derive-parts (λ p s b. derive-to depth (places-of (now (room .entry))) letter p s b) (places-of (now (room .entry))) left right product both (store-in (now (room .entry)) places) budget) d (now (room .exit))) ⌝ }
 {
-    let first = derive(room, places, left, letter, budget);
+    let first = derive_part(room, places, left, letter, budget);
     match first {
-        Derived::At(x, taken, rest) => choice_with(room, taken, x, right, letter, rest),
-        Derived::Stopped(number, taken, rest) => Derived::Stopped(number, taken, rest),
-    }
-}
-
-// Derive the place, and make the choice of x and that.
-fn choice_with(
-    room: &mut [u8],
-    places: usize,
-    x: usize,
-    place: usize,
-    letter: u8,
-    budget: u32,
-) -> Derived
-    requires { ⌜ GoodStore (now room) places ⌝ }
-    requires { ⌜ (x < places) × (place < places) ⌝ }
-    ensures { λ d. ⌜ ((depth : ℕ) → place < depth → Comes (now (room .entry)) (choice-with (λ p s b. derive-to depth (places-of (now (room .entry))) letter p s b) (places-of (now (room .entry))) x place (store-in (now (room .entry)) places) budget) d (now (room .exit))) ⌝ }
-{
-    let second = derive(room, places, place, letter, budget);
-    match second {
-        Derived::At(y, taken, rest) => made(make(room, taken, CHOICE, 0, x, y), rest),
-        Derived::Stopped(number, taken, rest) => Derived::Stopped(number, taken, rest),
-    }
-}
-
-// Sequence: derive left; make the sequence of that with right; only if left's mark is 1, derive right and make the choice of both.
-fn derive_sequence(
-    room: &mut [u8],
-    places: usize,
-    left: usize,
-    right: usize,
-    letter: u8,
-    budget: u32,
-) -> Derived
-    requires { ⌜ GoodStore (now room) places ⌝ }
-    requires { ⌜ (left < places) × (right < places) ⌝ }
-    ensures { λ d. ⌜ ((depth : ℕ) → left < depth → right < depth → Comes (now (room .entry)) (derive-sequence (λ p s b. derive-to depth (places-of (now (room .entry))) letter p s b) (places-of (now (room .entry))) left right (marked (child (store-in (now (room .entry)) places) left)) (store-in (now (room .entry)) places) budget) d (now (room .exit))) ⌝ }
-{
-    let left_marked = marked_at(room, places, left);
-    let first = derive(room, places, left, letter, budget);
-    match first {
-        Derived::At(x, taken, rest) => with_product(
+        Derived::At(x, taken, rest) => with_left(
             room,
             taken,
             x,
             right,
-            left_marked,
+            product,
+            both,
             letter,
             rest,
         ),
@@ -149,64 +139,62 @@ fn derive_sequence(
     }
 }
 
-// Makes the product of x with the right part, and goes on.
-fn with_product(
+// The left part came to x: makes the product where it is asked for, and goes on.
+fn with_left(
     room: &mut [u8],
     places: usize,
     x: usize,
     right: usize,
-    left_marked: bool,
+    product: bool,
+    both: bool,
     letter: u8,
     budget: u32,
 ) -> Derived
     requires { ⌜ GoodStore (now room) places ⌝ }
     requires { ⌜ (x < places) × (right < places) ⌝ }
-    ensures { λ d. ⌜ ((depth : ℕ) → right < depth → Comes (now (room .entry)) (with-product (λ p s b. derive-to depth (places-of (now (room .entry))) letter p s b) (places-of (now (room .entry))) x right «left_marked» (store-in (now (room .entry)) places) budget) d (now (room .exit))) ⌝ }
+    ensures { λ d. ⌜ ((depth : ℕ) → cond both right 0 < depth → Comes (now (room .entry)) (with-left (λ p s b. derive-to depth (places-of (now (room .entry))) letter p s b) (places-of (now (room .entry))) x right product both (store-in (now (room .entry)) places) budget) d (now (room .exit))) ⌝ }
 {
-    let product = make(room, places, SEQUENCE, 0, x, right);
-    match product {
-        Made::Placed(y, taken) => after_product(room, taken, right, left_marked, y, letter, budget),
+    let so_far = product_of(room, places, x, right, product);
+    match so_far {
+        Made::Placed(y, taken) => with_right(room, taken, y, right, both, letter, budget),
         Made::Full(taken) => Derived::Stopped(NO_FREE_PLACE, taken, budget),
     }
 }
 
-// What follows once the product is made.
-fn after_product(
-    room: &mut [u8],
-    places: usize,
-    right: usize,
-    left_marked: bool,
-    product: usize,
-    letter: u8,
-    budget: u32,
-) -> Derived
+// The product of x with the right part where it is asked for, and else x.
+fn product_of(room: &mut [u8], places: usize, x: usize, right: usize, product: bool) -> Made
     requires { ⌜ GoodStore (now room) places ⌝ }
-    requires { ⌜ (product < places) × (right < places) ⌝ }
-    ensures { λ d. ⌜ ((depth : ℕ) → right < depth → Comes (now (room .entry)) (after-product (λ p s b. derive-to depth (places-of (now (room .entry))) letter p s b) (places-of (now (room .entry))) right «left_marked» product (store-in (now (room .entry)) places) budget) d (now (room .exit))) ⌝ }
+    requires { ⌜ (x < places) × (right < places) ⌝ }
+    ensures { λ m. ⌜ m ≡ told-making (product-of (places-of (now (room .entry))) (store-in (now (room .entry)) places) x right product) ⌝ }
+    ensures { λ _. ⌜ now (room .exit) ≡ laid (after (product-of (places-of (now (room .entry))) (store-in (now (room .entry)) places) x right product)) (now (room .entry)) ⌝ }
 {
-    if left_marked {
-        choice_with(room, places, product, right, letter, budget)
+    if product {
+        make(room, places, SEQUENCE, 0, x, right)
     } else {
-        Derived::At(product, places, budget)
+        Made::Placed(x, places)
     }
 }
 
-// Repeat: derive left, make the sequence of that with the repeat itself.
-fn derive_repeat(
+// It is x so far: where the right part is asked for, derives it and makes the choice of x and that.
+fn with_right(
     room: &mut [u8],
     places: usize,
-    left: usize,
-    repeat: usize,
+    x: usize,
+    right: usize,
+    both: bool,
     letter: u8,
     budget: u32,
 ) -> Derived
     requires { ⌜ GoodStore (now room) places ⌝ }
-    requires { ⌜ (left < places) × (repeat < places) ⌝ }
-    ensures { λ d. ⌜ ((depth : ℕ) → left < depth → Comes (now (room .entry)) (derive-repeat (λ p s b. derive-to depth (places-of (now (room .entry))) letter p s b) (places-of (now (room .entry))) left repeat (store-in (now (room .entry)) places) budget) d (now (room .exit))) ⌝ }
+    requires { ⌜ (x < places) × (right < places) ⌝ }
+    ensures { λ d. ⌜ ((depth : ℕ) → cond both right 0 < depth → Comes (now (room .entry)) (after-product (λ p s b. derive-to depth (places-of (now (room .entry))) letter p s b) (places-of (now (room .entry))) right both x (store-in (now (room .entry)) places) budget) d (now (room .exit))) ⌝ }
 {
-    let first = derive(room, places, left, letter, budget);
-    match first {
-        Derived::At(x, taken, rest) => made(make(room, taken, SEQUENCE, 0, x, repeat), rest),
+    if !both {
+        return Derived::At(x, places, budget);
+    }
+    let second = derive_part(room, places, right, letter, budget);
+    match second {
+        Derived::At(y, taken, rest) => made(make(room, taken, CHOICE, 0, x, y), rest),
         Derived::Stopped(number, taken, rest) => Derived::Stopped(number, taken, rest),
     }
 }

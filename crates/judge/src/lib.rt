@@ -4,6 +4,7 @@
 //
 // What is lent. Cards, words, lists and rooms may be any bytes of any length, and a budget any number of visits. The calls ask nothing of their
 // caller, always end, and read and write nothing outside what they are lent. What a room held before plays no part in any answer.
+// A call takes at most 512 KiB of stack, as measured: docs/TESTING.md.
 //
 // What is told. Places are the records that stand at the start of the work room, and pairs those that stand at the start of the pair room. Visits
 // are what was spent of the budget. Every other byte of a room is as lent; the word room changes only on "different".

@@ -12,6 +12,6 @@ abbrev pub told-making : Making → Made
 told-making (placed place store) = Placed place (length store)
 told-making (full store) = Full (length store)
 
--- A set of a kind, whose record was read: its place, its first member and the place of the set behind that.
+-- A set of a kind, whose record was read: its first member and the place of the set behind that.
 abbrev pub side : ℕ → List Record → ℕ → Side
-side kind store place = record { place = place; first = first kind store place; behind = behind kind store place }
+side kind store place = record { first = first kind store place; behind = behind kind store place }

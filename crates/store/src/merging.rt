@@ -13,14 +13,14 @@ ghost use Rattle.store.specs.Making.{placed, put-before, set-of-both, af
 ghost use Rattle.store.specs.Told.{told-making, side};
 ghost use Rattle.store.specs.Good.{SetKind, GoodStore};
 
-// A set whose record was read: its place, its first member and the place of the set behind that.
+// A set whose record was read: its first member and the place of the set behind that.
 pub struct Side {
-    pub place: usize,
     pub first: usize,
     pub behind: usize,
 }
 
-// Making the set of both places' members.
+// Making the set of both places' members. Where one is used up, or both are one, the other stands already. Places are handed on, and no
+// record that was read, so that a level of these calls takes little of the stack.
 pub fn set_of_both(room: &mut [u8], places: usize, kind: u8, left: usize, right: usize) -> Made
     requires { ⌜ GoodStore (now room) places ⌝ }
     requires { ⌜ (left < places) × (right < places) ⌝ }
@@ -28,12 +28,29 @@ pub fn set_of_both(room: &mut [u8], places: usize, kind: u8, left: usize, right:
     ensures { λ m. ⌜ m ≡ told-making (set-of-both (places-of (now (room .entry))) kind (store-in (now (room .entry)) places) left right) ⌝ }
     ensures { λ _. ⌜ now (room .exit) ≡ laid (after (set-of-both (places-of (now (room .entry))) kind (store-in (now (room .entry)) places) left right)) (now (room .entry)) ⌝ }
 {
+    if (left == NOTHING_PLACE) | (left == right) {
+        return Made::Placed(right, places);
+    }
+    if right == NOTHING_PLACE {
+        return Made::Placed(left, places);
+    }
     let one = read_side(room, places, kind, left);
     let other = read_side(room, places, kind, right);
-    merge(room, places, kind, one, other)
+    let member = lower(one.first, other.first);
+    let rest = set_of_both(
+        room,
+        places,
+        kind,
+        past(left, one, member),
+        past(right, other, member),
+    );
+    match rest {
+        Made::Placed(place, taken) => put_before(room, taken, kind, member, place),
+        Made::Full(taken) => Made::Full(taken),
+    }
 }
 
-// The set at a place: its record is read here, and not again.
+// The set at a place.
 fn read_side(room: &[u8], places: usize, kind: u8, place: usize) -> Side
     requires { ⌜ GoodStore (now room) places ⌝ }
     requires { ⌜ place < places ⌝ }
@@ -42,55 +59,24 @@ fn read_side(room: &[u8], places: usize, kind: u8, place: usize) -> Side
     let r = read(room, place);
     if r.kind == kind {
         return Side {
-            place,
             first: r.left as usize,
             behind: r.right as usize,
         };
     }
     Side {
-        place,
         first: place,
         behind: NOTHING_PLACE,
     }
 }
 
-// Two sets merged and built. Where one is used up, or both are one, the other stands already.
-fn merge(room: &mut [u8], places: usize, kind: u8, left: Side, right: Side) -> Made
-    requires { ⌜ GoodStore (now room) places ⌝ }
-    requires { ⌜ (left .place < places) × (right .place < places) ⌝ }
-    requires { ⌜ left ≡ side kind (store-in (now room) places) (left .place) ⌝ }
-    requires { ⌜ right ≡ side kind (store-in (now room) places) (right .place) ⌝ }
-    requires { ⌜ SetKind kind ⌝ }
-    ensures { λ m. ⌜ m ≡ told-making (set-of-both (places-of (now (room .entry))) kind (store-in (now (room .entry)) places) (left .place) (right .place)) ⌝ }
-    ensures { λ _. ⌜ now (room .exit) ≡ laid (after (set-of-both (places-of (now (room .entry))) kind (store-in (now (room .entry)) places) (left .place) (right .place))) (now (room .entry)) ⌝ }
-{
-    if (left.place == NOTHING_PLACE) | (left.place == right.place) {
-        return Made::Placed(right.place, places);
-    }
-    if right.place == NOTHING_PLACE {
-        return Made::Placed(left.place, places);
-    }
-    let member = lower(left.first, right.first);
-    let one = past(room, places, kind, left, member);
-    let other = past(room, places, kind, right, member);
-    let rest = merge(room, places, kind, one, other);
-    match rest {
-        Made::Placed(place, taken) => put_before(room, taken, kind, member, place),
-        Made::Full(taken) => Made::Full(taken),
-    }
-}
-
-// What is left of a set behind a member: the set behind its first where that is the member, and else the set as it stands.
-fn past(room: &[u8], places: usize, kind: u8, set: Side, member: usize) -> Side
-    requires { ⌜ GoodStore (now room) places ⌝ }
-    requires { ⌜ set .place < places ⌝ }
-    requires { ⌜ set ≡ side kind (store-in (now room) places) (set .place) ⌝ }
-    ensures { λ s. ⌜ s ≡ side kind (store-in (now (room .entry)) places) (cond (eqb (set .first) member) (set .behind) (set .place)) ⌝ }
+// What is left of the set at a place behind a member: the set behind its first where that is the member, and else the set as it stands.
+fn past(place: usize, set: Side, member: usize) -> usize
+    ensures { λ n. ⌜ n ≡ cond (eqb (set .first) member) (set .behind) place ⌝ }
 {
     if set.first == member {
-        return read_side(room, places, kind, set.behind);
+        return set.behind;
     }
-    set
+    place
 }
 
 // A member before the set of the later ones: where that is nothing the member is the set, and else the record of both is used or written.

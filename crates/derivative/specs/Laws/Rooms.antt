@@ -2,10 +2,9 @@
 -- the store that a derivation comes to is good again and stands in the room that was left.
 use Prim.Native.Nat.{ℕ, zero, suc, _-_, _<_, _≤_}
 use native.Mathlib.Omega.{arith}
-use mathlib.Core.Bool.{Bool, true, false}
+use mathlib.Core.Bool.{Bool, true, false, cond}
 use mathlib.Core.List.{List}
 use mathlib.Core.Path.{_≡_, refl, sym, _∙_, ap, ap₂, subst}
-use lib.Dec.{eqb}
 use lib.ListN.{length}
 use Rattle.language.specs.Word.{IsByte}
 use Rattle.records.specs.declared.kind.Kind.{Kind}
@@ -13,7 +12,7 @@ use Rattle.records.specs.declared.kind.Kind.the-variants.{Nothing, EmptyWord, L
 use Rattle.records.specs.declared.record.Record.{Record}
 use Rattle.records.specs.Record.{record-at, child}
 use Rattle.records.specs.Kind.{kind-of, columns, choice-kind, sequence-kind}
-use Rattle.cards.specs.Mark.{bit, marked}
+use Rattle.cards.specs.Mark.{marked}
 use Rattle.cards.specs.Standing.{LineOf, Line}
 use Rattle.store.specs.declared.interning.Made.{Made}
 use Rattle.store.specs.declared.interning.Made.the-variants.{Placed, Full}
@@ -26,7 +25,10 @@ use Rattle.store.specs.Laws.Wall.{grows-length, Ready, Kept, kept-refl, kept-tr
 use Rattle.store.specs.Laws.GoodRoom.{room-ready, length-store-in, places-after, store-after, good-after}
 use Rattle.derivative.specs.declared.Derived.{Derived}
 use Rattle.derivative.specs.declared.Derived.the-variants.{At, Stopped}
-use Rattle.derivative.specs.Derivative.{Deriving, derived, stopped, price, and-then, of-making, making, choice-with, after-product, with-product, derive-choice, derive-sequence, derive-repeat, derive-record, derive-to}
+use Rattle.derivative.specs.declared.Visited.{Visited}
+use Rattle.derivative.specs.declared.Visited.the-variants.{Leaf, Parts}
+use Rattle.derivative.specs.Derivative.{Deriving, derived, stopped, price, and-then, of-making, making, choice-with, after-product, derive-record, derive-to}
+use Rattle.derivative.specs.Parts.{asks, asked, product-of, with-left, derive-parts, derive-asked}
 use Rattle.derivative.specs.Told.{after-deriving, Comes, of-made}
 use Rattle.derivative.specs.Laws.Steps.{Step, StepLaw, was-done, was-ended, two-makeable, making-law}
 use Rattle.derivative.specs.Laws.Derivative.{is-unpaid, is-paid, derive-to-law}
@@ -69,6 +71,11 @@ sequence-keeps : {cap : ℕ} {store : List Record} → Ready cap store → (x y 
     → (budget : ℕ) → Keeps cap store (making cap sequence-kind x y store budget)
 sequence-keeps ready x y l m budget = making-keeps ready (two-makeable sequence-kind refl l m) budget
 
+product-keeps : {cap : ℕ} {store : List Record} → Ready cap store → (x right : ℕ) (product : Bool) → x < length store → right < length store
+    → (budget : ℕ) → Keeps cap store (of-making (product-of cap store x right product) budget)
+product-keeps ready x right true l m budget = sequence-keeps ready x right l m budget
+product-keeps ready x right false l m budget = derives (kept-refl ready) l
+
 -- Deriving by a letter to a depth, in a room of so many places.
 abbrev D : ℕ → ℕ → ℕ → ℕ → List Record → ℕ → Deriving
 D letter depth cap place store budget = derive-to depth cap letter place store budget
@@ -78,24 +85,20 @@ module _ (letter : ℕ) (byte : IsByte letter) (depth : ℕ) where
       → (budget : ℕ) → Keeps cap store (D letter depth cap place store budget)
   derive-keeps {cap} {store} ready place l m budget = step-keeps (derive-to-law letter byte depth cap place store budget l m ready)
 
-  choice-with-keeps : {cap : ℕ} {store : List Record} → Ready cap store → (x place : ℕ) → place < depth → x < length store → place < length store
-      → (budget : ℕ) → Keeps cap store (choice-with (D letter depth cap) cap x place store budget)
-  choice-with-keeps ready x place l m n budget =
-      keeps-then (derive-keeps ready place l n budget)
+  right-keeps : {cap : ℕ} {store : List Record} → Ready cap store → (x right : ℕ) (both : Bool)
+      → cond both right 0 < depth → x < length store → right < length store
+      → (budget : ℕ) → Keeps cap store (after-product (D letter depth cap) cap right both x store budget)
+  right-keeps ready x right true l m n budget =
+      keeps-then (derive-keeps ready right l n budget)
       (λ y s b k i. choice-keeps (k .ready) x y (omega (arith, grows-length (k .grows))) i b)
+  right-keeps ready x right false l m n budget = derives (kept-refl ready) m
 
-  after-product-keeps : {cap : ℕ} {store : List Record} → Ready cap store → (right : ℕ) (left-marked : Bool) (product : ℕ)
-      → right < depth → product < length store → right < length store
-      → (budget : ℕ) → Keeps cap store (after-product (D letter depth cap) cap right left-marked product store budget)
-  after-product-keeps ready right true product l m n budget = choice-with-keeps ready product right l m n budget
-  after-product-keeps ready right false product l m n budget = derives (kept-refl ready) m
-
-  with-product-keeps : {cap : ℕ} {store : List Record} → Ready cap store → (x right : ℕ) (left-marked : Bool)
-      → right < depth → x < length store → right < length store
-      → (budget : ℕ) → Keeps cap store (with-product (D letter depth cap) cap x right left-marked store budget)
-  with-product-keeps ready x right left-marked l m n budget =
-      keeps-then (sequence-keeps ready x right m n budget)
-      (λ y s b k i. after-product-keeps (k .ready) right left-marked y l i (omega (arith, grows-length (k .grows))) b)
+  left-keeps : {cap : ℕ} {store : List Record} → Ready cap store → (x right : ℕ) (product both : Bool)
+      → cond both right 0 < depth → x < length store → right < length store
+      → (budget : ℕ) → Keeps cap store (with-left (D letter depth cap) cap x right product both store budget)
+  left-keeps ready x right product both l m n budget =
+      keeps-then (product-keeps ready x right product m n budget)
+      (λ y s b k i. right-keeps (k .ready) y right both l i (omega (arith, grows-length (k .grows))) b)
 
 -- What the code told is one thing.
 pub not-both : {answer : Derived} {number taken rest x taken′ rest′ : ℕ} → answer ≡ Stopped number taken rest → answer ≡ At x taken′ rest′ → ⊥
@@ -209,36 +212,22 @@ module _ (letter : ℕ) (room : List ℕ) (places : ℕ) where
   abbrev Derives : (place budget : ℕ) → Derived → List ℕ → Type 0
   Derives place budget answer exit = (depth : ℕ) → place < depth → Comes room (derive-to depth cap letter place store budget) answer exit
 
-  abbrev DerivesChoiceWith : (x place budget : ℕ) → Derived → List ℕ → Type 0
-  DerivesChoiceWith x place budget answer exit =
-      (depth : ℕ) → place < depth → Comes room (choice-with (D letter depth cap) cap x place store budget) answer exit
+  abbrev DerivesRight : (x right : ℕ) (both : Bool) (budget : ℕ) → Derived → List ℕ → Type 0
+  DerivesRight x right both budget answer exit =
+      (depth : ℕ) → cond both right 0 < depth → Comes room (after-product (D letter depth cap) cap right both x store budget) answer exit
 
-  abbrev DerivesAfterProduct : (right : ℕ) (left-marked : Bool) (product budget : ℕ) → Derived → List ℕ → Type 0
-  DerivesAfterProduct right left-marked product budget answer exit =
-      (depth : ℕ) → right < depth → Comes room (after-product (D letter depth cap) cap right left-marked product store budget) answer exit
+  abbrev DerivesLeft : (x right : ℕ) (product both : Bool) (budget : ℕ) → Derived → List ℕ → Type 0
+  DerivesLeft x right product both budget answer exit =
+      (depth : ℕ) → cond both right 0 < depth → Comes room (with-left (D letter depth cap) cap x right product both store budget) answer exit
 
-  abbrev DerivesWithProduct : (x right : ℕ) (left-marked : Bool) (budget : ℕ) → Derived → List ℕ → Type 0
-  DerivesWithProduct x right left-marked budget answer exit =
-      (depth : ℕ) → right < depth → Comes room (with-product (D letter depth cap) cap x right left-marked store budget) answer exit
+  abbrev DerivesParts : (left right : ℕ) (product both : Bool) (budget : ℕ) → Derived → List ℕ → Type 0
+  DerivesParts left right product both budget answer exit =
+      (depth : ℕ) → left < depth → cond both right 0 < depth
+      → Comes room (derive-parts (D letter depth cap) cap left right product both store budget) answer exit
 
-  abbrev DerivesChoice : (left right budget : ℕ) → Derived → List ℕ → Type 0
-  DerivesChoice left right budget answer exit =
-      (depth : ℕ) → left < depth → right < depth → Comes room (derive-choice (D letter depth cap) cap left right store budget) answer exit
-
-  abbrev DerivesSequence : (left right budget : ℕ) → Derived → List ℕ → Type 0
-  DerivesSequence left right budget answer exit =
-      (depth : ℕ) → left < depth → right < depth
-      → Comes room (derive-sequence (D letter depth cap) cap left right (marked (child store left)) store budget) answer exit
-
-  abbrev DerivesRepeat : (left self budget : ℕ) → Derived → List ℕ → Type 0
-  DerivesRepeat left self budget answer exit =
-      (depth : ℕ) → left < depth → Comes room (derive-repeat (D letter depth cap) cap left self store budget) answer exit
-
--- What making a record ensures of such a room.
-abbrev Makes : (room : List ℕ) (places kind left right : ℕ) → Made → List ℕ → Type 0
-Makes room places kind left right told exit =
-    (told ≡ told-making (make (places-of room) (store-in room places) kind 0 left right))
-    × (exit ≡ laid (after (make (places-of room) (store-in room places) kind 0 left right)) room)
+-- What making ensures of such a room.
+abbrev Makes : List ℕ → Making → Made → List ℕ → Type 0
+Makes room m told exit = (told ≡ told-making m) × (exit ≡ laid (after m) room)
 
 module _ (letter : ℕ) (byte : IsByte letter) {room : List ℕ} {places : ℕ} (good : GoodStore room places) where
   -- A place is derived first.
@@ -250,24 +239,17 @@ module _ (letter : ℕ) (byte : IsByte letter) {room : List ℕ} {places : ℕ} 
     pub first-next : {x taken rest : ℕ} → first ≡ At x taken rest → Next places room₁ x taken
     first-next e = next good (first-stands e (suc place) (omega arith))
 
-    -- It was stopped; `other` is the place that follows.
-    module _ {number taken rest : ℕ} (e : first ≡ Stopped number taken rest) (other : ℕ) where
-      pub choice-with-stopped : DerivesChoiceWith letter room places other place budget (Stopped number taken rest) room₁
-      choice-with-stopped depth l = stopped-then (c depth l) e (λ y s b. making (places-of room) choice-kind other y s b)
+    -- It was stopped, as the left part or as the right one.
+    module _ {number taken rest : ℕ} (e : first ≡ Stopped number taken rest) where
+      pub parts-stopped : (right : ℕ) (product both : Bool) → DerivesParts letter room places place right product both budget (Stopped number taken rest) room₁
+      parts-stopped right product both depth l m =
+          stopped-then (c depth l) e (λ y s b. with-left (D letter depth (places-of room)) (places-of room) y right product both s b)
 
-      pub choice-stopped : DerivesChoice letter room places place other budget (Stopped number taken rest) room₁
-      choice-stopped depth l m =
-          stopped-then (c depth l) e (λ y s b. choice-with (D letter depth (places-of room)) (places-of room) y other s b)
+      pub right-stopped : (x : ℕ) {both : Bool} → both ≡ true → DerivesRight letter room places x place both budget (Stopped number taken rest) room₁
+      right-stopped x f depth l =
+          rw f (stopped-then (c depth (rw f at l)) e (λ y s b. making (places-of room) choice-kind x y s b))
 
-      pub sequence-stopped : DerivesSequence letter room places place other budget (Stopped number taken rest) room₁
-      sequence-stopped depth l m =
-          stopped-then (c depth l) e
-          (λ y s b. with-product (D letter depth (places-of room)) (places-of room) y other (marked (child (store-in room places) place)) s b)
-
-      pub repeat-stopped : DerivesRepeat letter room places place other budget (Stopped number taken rest) room₁
-      repeat-stopped depth l = stopped-then (c depth l) e (λ y s b. making (places-of room) sequence-kind y other s b)
-
-    -- It came to x; `other` is the place that follows.
+    -- It came to x; `other` is a place that stood before.
     module _ {x taken rest : ℕ} (e : first ≡ At x taken rest) (other : ℕ) (there : other < places) where
       ready : Ready (places-of room₁) (store-in room₁ taken)
       ready = room-ready (first-next e .good)
@@ -278,86 +260,94 @@ module _ (letter : ℕ) (byte : IsByte letter) {room : List ℕ} {places : ℕ} 
       other-there : other < length (store-in room₁ taken)
       other-there = let m = first-next e .more in in-store room₁ {places = taken} (omega arith)
 
-      pub choice-made : {told : Made} {exit : List ℕ} → Makes room₁ taken choice-kind other x told exit → {answer : Derived} → answer ≡ of-made told rest
-          → DerivesChoiceWith letter room places other place budget answer exit
-      choice-made (t, w) f depth l =
-          comes-then good (first-stands e depth l) (λ cap y s b. making cap choice-kind other y s b)
+      pub right-made : {told : Made} {exit : List ℕ} → Makes room₁ (make (places-of room₁) (store-in room₁ taken) choice-kind 0 other x) told exit
+          → {answer : Derived} → answer ≡ of-made told rest → {both : Bool} → both ≡ true
+          → DerivesRight letter room places other place both budget answer exit
+      right-made (t, w) f g depth l =
+          rw g
+          (comes-then good (first-stands e depth (rw g at l)) (λ cap y s b. making cap choice-kind other y s b)
           (choice-keeps ready other x other-there x-there rest)
-          (comes-made (make (places-of room₁) (store-in room₁ taken) choice-kind 0 other x) rest t w f)
+          (comes-made (make (places-of room₁) (store-in room₁ taken) choice-kind 0 other x) rest t w f))
 
-      pub repeat-made : {told : Made} {exit : List ℕ} → Makes room₁ taken sequence-kind x other told exit → {answer : Derived} → answer ≡ of-made told rest
-          → DerivesRepeat letter room places place other budget answer exit
-      repeat-made (t, w) f depth l =
-          comes-then good (first-stands e depth l) (λ cap y s b. making cap sequence-kind y other s b)
-          (sequence-keeps ready x other x-there other-there rest)
-          (comes-made (make (places-of room₁) (store-in room₁ taken) sequence-kind 0 x other) rest t w f)
-
-      pub choice-derived : {answer : Derived} {exit : List ℕ} → DerivesChoiceWith letter room₁ taken x other rest answer exit
-          → DerivesChoice letter room places place other budget answer exit
-      choice-derived h depth l m =
-          comes-then good (first-stands e depth l) (λ cap y s b. choice-with (D letter depth cap) cap y other s b)
-          (choice-with-keeps letter byte depth ready x other m x-there other-there rest)
+      pub parts-derived : (product both : Bool) {answer : Derived} {exit : List ℕ} → DerivesLeft letter room₁ taken x other product both rest answer exit
+          → DerivesParts letter room places place other product both budget answer exit
+      parts-derived product both h depth l m =
+          comes-then good (first-stands e depth l) (λ cap y s b. with-left (D letter depth cap) cap y other product both s b)
+          (left-keeps letter byte depth ready x other product both m x-there other-there rest)
           (h depth m)
 
-      pub sequence-derived : {left-marked : Bool} → left-marked ≡ marked (child (store-in room places) place) → {answer : Derived} {exit : List ℕ}
-          → DerivesWithProduct letter room₁ taken x other left-marked rest answer exit
-          → DerivesSequence letter room places place other budget answer exit
-      sequence-derived {left-marked} says {answer} {exit} h depth l m =
-          subst
-          (λ (b : Bool). Comes room (derive-sequence (D letter depth (places-of room)) (places-of room) place other b (store-in room places) budget) answer exit)
-          says
-          (comes-then good (first-stands e depth l) (λ cap y s b. with-product (D letter depth cap) cap y other left-marked s b)
-          (with-product-keeps letter byte depth ready x other left-marked m x-there other-there rest)
-          (h depth m))
+  -- The product of x with the right part is made first, where it is asked for.
+  module _ (x right budget : ℕ) (inside : (x < places) × (right < places)) (product both : Bool) {told : Made} {room₁ : List ℕ}
+      (made : Makes room (product-of (places-of room) (store-in room places) x right product) told room₁) where
+    abbrev producing : Making
+    producing = product-of (places-of room) (store-in room places) x right product
 
-  -- The product of x with the right part is made first.
-  module _ (x right budget : ℕ) (both : (x < places) × (right < places)) {told : Made} {room₁ : List ℕ} (made : Makes room places sequence-kind x right told room₁) where
-    product-comes : {told′ : Made} → told ≡ told′
-        → Comes room (making (places-of room) sequence-kind x right (store-in room places) budget) (of-made told′ budget) room₁
-    product-comes e =
-        comes-made (make (places-of room) (store-in room places) sequence-kind 0 x right) budget (made .0) (made .1) (ap (λ (m : Made). of-made m budget) (sym e))
+    product-comes : {told′ : Made} → told ≡ told′ → Comes room (of-making producing budget) (of-made told′ budget) room₁
+    product-comes e = comes-made producing budget (made .0) (made .1) (ap (λ (m : Made). of-made m budget) (sym e))
 
-    product-stands : {y taken : ℕ} → told ≡ Placed y taken
-        → Stands room places (making (places-of room) sequence-kind x right (store-in room places) budget) y taken budget room₁
+    product-stands : {y taken : ℕ} → told ≡ Placed y taken → Stands room places (of-making producing budget) y taken budget room₁
     product-stands e =
-        stands (sequence-keeps (room-ready good) x right (in-store room (both .0)) (in-store room (both .1)) budget) (product-comes e) refl
+        stands (product-keeps (room-ready good) x right product (in-store room (inside .0)) (in-store room (inside .1)) budget) (product-comes e) refl
 
     pub product-next : {y taken : ℕ} → told ≡ Placed y taken → Next places room₁ y taken
     product-next e = next good (product-stands e)
 
-    pub product-full : (left-marked : Bool) {taken : ℕ} → told ≡ Full taken
-        → DerivesWithProduct letter room places x right left-marked budget (Stopped 7 taken budget) room₁
-    product-full left-marked e depth l =
-        stopped-then (product-comes e) refl (λ y s b. after-product (D letter depth (places-of room)) (places-of room) right left-marked y s b)
+    pub product-full : {taken : ℕ} → told ≡ Full taken → DerivesLeft letter room places x right product both budget (Stopped 7 taken budget) room₁
+    product-full e depth l =
+        stopped-then (product-comes e) refl (λ y s b. after-product (D letter depth (places-of room)) (places-of room) right both y s b)
 
-    pub product-placed : (left-marked : Bool) {y taken : ℕ} → told ≡ Placed y taken → {answer : Derived} {exit : List ℕ}
-        → DerivesAfterProduct letter room₁ taken right left-marked y budget answer exit
-        → DerivesWithProduct letter room places x right left-marked budget answer exit
-    product-placed left-marked {y} {taken} e h depth l =
+    pub product-placed : {y taken : ℕ} → told ≡ Placed y taken → {answer : Derived} {exit : List ℕ}
+        → DerivesRight letter room₁ taken y right both budget answer exit
+        → DerivesLeft letter room places x right product both budget answer exit
+    product-placed {y} {taken} e h depth l =
         let n = product-next e in
-        let right-there : right < taken = let m = n .more in let b = both .1 in omega arith in
-        comes-then good (product-stands e) (λ cap z s b. after-product (D letter depth cap) cap right left-marked z s b)
-        (after-product-keeps letter byte depth (room-ready (n .good)) right left-marked y l (in-store room₁ (n .inside)) (in-store room₁ right-there) budget)
+        let right-there : right < taken = let m = n .more in let b = inside .1 in omega arith in
+        comes-then good (product-stands e) (λ cap z s b. after-product (D letter depth cap) cap right both z s b)
+        (right-keeps letter byte depth (room-ready (n .good)) y right both l (in-store room₁ (n .inside)) (in-store room₁ right-there) budget)
         (h depth l)
 
--- After the product, by the mark of the left part.
-module _ (letter : ℕ) {room : List ℕ} {places : ℕ} (good : GoodStore room places) (right product budget : ℕ) {left-marked : Bool} where
-  pub product-marked : left-marked ≡ true → {answer : Derived} {exit : List ℕ}
-      → DerivesChoiceWith letter room places product right budget answer exit
-      → DerivesAfterProduct letter room places right left-marked product budget answer exit
-  product-marked e h depth l = rw e (h depth l)
+-- The right part is not asked for.
+pub right-unasked : (letter : ℕ) {room : List ℕ} {places : ℕ} → GoodStore room places → (x right budget : ℕ) {both : Bool} → both ≡ false
+    → DerivesRight letter room places x right both budget (At x places budget) room
+right-unasked letter good x right budget e depth l = rw e (derived-here good x budget)
 
-  pub product-unmarked : left-marked ≡ false → DerivesAfterProduct letter room places right left-marked product budget (At product places budget) room
-  product-unmarked e depth l = rw e (derived-here good product budget)
+-- No product is asked for.
+pub product-unasked : {room : List ℕ} {places : ℕ} → GoodStore room places → (x right : ℕ) {product : Bool} → product ≡ false
+    → Makes room (product-of (places-of room) (store-in room places) x right product) (Placed x places) room
+product-unasked {room} {places} good x right e =
+    rw e (ap (Placed x) (sym (length-store-in room places)), sym (laid-same places room (good .fits) (good .bytes)))
+
+pub product-asked : (room : List ℕ) (places x right : ℕ) {product : Bool} → product ≡ true → {told : Made} {exit : List ℕ}
+    → Makes room (make (places-of room) (store-in room places) sequence-kind 0 x right) told exit
+    → Makes room (product-of (places-of room) (store-in room places) x right product) told exit
+product-asked room places x right e h = rw e h
+
+-- Once the visit is paid: the definition, kind by kind, is what the record asks for.
+then-derived : (d : Deriving) → and-then d (λ x s b. derived x s b) ≡ d
+then-derived (derived x s b) = refl
+then-derived (stopped n s b) = refl
+
+repeated : (next next′ : ℕ → List Record → ℕ → Deriving) → ((x : ℕ) (s : List Record) (b : ℕ) → next x s b ≡ next′ x s b)
+    → (d : Deriving) → and-then d next ≡ and-then d next′
+repeated next next′ h (derived x s b) = h x s b
+repeated next next′ h (stopped n s b) = refl
+
+by-kind : (derive : ℕ → List Record → ℕ → Deriving) (cap letter : ℕ) (r : Record) (left-marked : Bool) (self : ℕ) (store : List Record) (budget : ℕ) (K : Kind)
+    → derive-record K derive cap letter r left-marked self store budget ≡ derive-asked (asks K letter r left-marked self) derive cap store budget
+by-kind derive cap letter r left-marked self store budget Nothing = refl
+by-kind derive cap letter r left-marked self store budget EmptyWord = refl
+by-kind derive cap letter r left-marked self store budget Letter = refl
+by-kind derive cap letter r left-marked self store budget Choice = refl
+by-kind derive cap letter r left-marked self store budget Sequence = refl
+by-kind derive cap letter r left-marked self store budget Repeat =
+    repeated (λ x s b. making cap sequence-kind x self s b) (λ x s b. with-left derive cap x self true false s b)
+    (λ x s b. sym (then-derived (making cap sequence-kind x self s b))) (derive (r .left) store budget)
+by-kind derive cap letter r left-marked self store budget Unknown = refl
 
 -- The visit to a place.
-module _ (letter : ℕ) {room : List ℕ} {places : ℕ} (good : GoodStore room places) (place budget : ℕ) (inside : place < places) {fee : ℕ} (f : fee ≡ price place) where
-  pub unpaid : budget < fee → Derives letter room places place budget (Stopped 8 places budget) room
-  unpaid l zero m = absurd (omega arith)
-  unpaid l (suc depth) m = rw (is-unpaid depth letter place (places-of room) (store-in room places) budget (omega arith)) (stopped-here good 8 budget)
-
-  -- It is paid, the record is read and its kind is named.
-  module _ (paid : fee ≤ budget) {r : Record} (read : r ≡ record-at room place) {k : Kind} (named : k ≡ kind-of (r .kind)) where
+module _ (letter : ℕ) {room : List ℕ} {places : ℕ} (good : GoodStore room places) (place : ℕ) (inside : place < places) where
+  -- The record is read and its kind is named.
+  module _ {r : Record} (read : r ≡ record-at room place) {k : Kind} (named : k ≡ kind-of (r .kind)) where
     here : child (store-in room places) place ≡ r
     here = child-in-room places room place inside ∙ sym read
 
@@ -367,40 +357,81 @@ module _ (letter : ℕ) {room : List ℕ} {places : ℕ} (good : GoodStore room 
         subst (λ (K : Kind). LineOf (columns K) place r) (sym named ∙ e)
         (subst (Line place) here (good .good .obeys place (in-store room inside) .line))
 
-    visited : {K : Kind} → k ≡ K → {answer : Derived} {exit : List ℕ}
-        → ((depth : ℕ) → place ≤ depth
-        → Comes room
-        (derive-record K (D letter depth (places-of room)) (places-of room) letter r (marked (child (store-in room places) (r .left))) place
-        (store-in room places) (budget - fee))
-        answer exit)
-        → Derives letter room places place budget answer exit
-    visited e h zero l = absurd (omega arith)
-    visited e h (suc depth) l =
-        let c = rw f at (h depth (omega arith)) in
-        rw (is-paid depth letter place (places-of room) (store-in room places) budget (omega arith), here, sym named ∙ e) c
+    pub asked-by : {K : Kind} → k ≡ K → asks K letter r (marked (child (store-in room places) (r .left))) place ≡ asked (store-in room places) letter place
+    asked-by e = rw (here, sym named ∙ e)
 
-    pub visited-nothing : k ≡ Nothing → Derives letter room places place budget (At 0 places (budget - fee)) room
-    visited-nothing e = visited e (λ depth l. derived-here good 0 (budget - fee))
+  -- The children that are derived stand lower, and the right part is in the store.
+  pub record Lower (left right : ℕ) (both : Bool) : Type 0 where
+    pub left-lower : left < place
+    pub right-inside : right < places
+    pub both-lower : cond both right 0 < place
 
-    pub visited-empty-word : k ≡ EmptyWord → Derives letter room places place budget (At 0 places (budget - fee)) room
-    visited-empty-word e = visited e (λ depth l. derived-here good 0 (budget - fee))
+  -- What it asks for is known.
+  module _ {v : Visited} (says : v ≡ asked (store-in room places) letter place) where
+    pub parts-lower : {left right : ℕ} {product both : Bool} → v ≡ Parts left right product both → Lower left right both
+    parts-lower {left} {right} {product} {both} e =
+        go (kind-of (r .kind)) (sym says ∙ e) (good .good .obeys place (in-store room inside) .line)
+      where
+        r : Record
+        r = child (store-in room places) place
 
-    pub visited-unknown : k ≡ Unknown → Derives letter room places place budget (At 0 places (budget - fee)) room
-    visited-unknown e = visited e (λ depth l. derived-here good 0 (budget - fee))
+        not-leaf : {n : ℕ} → Leaf n ≡ Parts left right product both → ⊥
+        not-leaf h = let z : _≡_ {A = ℕ} 0 1 = cc in omega arith
 
-    pub visited-letter : k ≡ Letter → {mark : ℕ} → mark ≡ bit (eqb (r .letter) letter)
-        → Derives letter room places place budget (At mark places (budget - fee)) room
-    visited-letter e m = visited e (λ depth l. rw m (derived-here good (bit (eqb (r .letter) letter)) (budget - fee)))
+        lower-by : {b : Bool} → b ≡ both → left < place → right < places → cond b right 0 < place → Lower left right both
+        lower-by h l m n = record { left-lower = l; right-inside = m; both-lower = rw (sym h) n }
 
-    module _ {answer : Derived} {exit : List ℕ} where
-      pub visited-choice : k ≡ Choice → DerivesChoice letter room places (r .left) (r .right) (budget - fee) answer exit
+        mark-lower : (b : Bool) → left < place → right < place → cond b right 0 < place
+        mark-lower true l m = m
+        mark-lower false l m = omega arith
+
+        go : (K : Kind) → asks K letter r (marked (child (store-in room places) (r .left))) place ≡ Parts left right product both
+            → LineOf (columns K) place r → Lower left right both
+        go Nothing h l = absurd (not-leaf h)
+        go EmptyWord h l = absurd (not-leaf h)
+        go Letter h l = absurd (not-leaf h)
+        go Choice h l =
+            let a : r .left ≡ left = cc in
+            let b : r .right ≡ right = cc in
+            let c : true ≡ both = cc in
+            lower-by c (omega arith) (omega arith) (omega arith)
+        go Sequence h l =
+            let a : r .left ≡ left = cc in
+            let b : r .right ≡ right = cc in
+            let c : marked (child (store-in room places) (r .left)) ≡ both = cc in
+            lower-by c (omega arith) (omega arith) (mark-lower (marked (child (store-in room places) (r .left))) (omega arith) (omega arith))
+        go Repeat h l =
+            let a : r .left ≡ left = cc in
+            let b : place ≡ right = cc in
+            let c : false ≡ both = cc in
+            lower-by c (omega arith) (omega arith) (omega arith)
+        go Unknown h l = absurd (not-leaf h)
+
+  module _ (budget : ℕ) {fee : ℕ} (f : fee ≡ price place) where
+    pub unpaid : budget < fee → Derives letter room places place budget (Stopped 8 places budget) room
+    unpaid l zero m = absurd (omega arith)
+    unpaid l (suc depth) m = rw (is-unpaid depth letter place (places-of room) (store-in room places) budget (omega arith)) (stopped-here good 8 budget)
+
+    module _ (paid : fee ≤ budget) {v : Visited} (says : v ≡ asked (store-in room places) letter place) where
+      visited : {answer : Derived} {exit : List ℕ}
+          → ((depth : ℕ) → place ≤ depth
+          → Comes room (derive-asked v (D letter depth (places-of room)) (places-of room) (store-in room places) (budget - fee)) answer exit)
           → Derives letter room places place budget answer exit
-      visited-choice e h = let m = children-lower e in visited e (λ depth l. h depth (omega arith) (omega arith))
+      visited h zero l = absurd (omega arith)
+      visited h (suc depth) l =
+          let c = rw (f, says) at (h depth (omega arith)) in
+          rw (
+            is-paid depth letter place (places-of room) (store-in room places) budget (omega arith),
+            by-kind (D letter depth (places-of room)) (places-of room) letter (child (store-in room places) place)
+                (marked (child (store-in room places) (child (store-in room places) place .left))) place (store-in room places) (budget - price place)
+                (kind-of (child (store-in room places) place .kind)),
+          ) c
 
-      pub visited-sequence : k ≡ Sequence → DerivesSequence letter room places (r .left) (r .right) (budget - fee) answer exit
-          → Derives letter room places place budget answer exit
-      visited-sequence e h = let m = children-lower e in visited e (λ depth l. h depth (omega arith) (omega arith))
+      pub visited-leaf : {next : ℕ} → v ≡ Leaf next → Derives letter room places place budget (At next places (budget - fee)) room
+      visited-leaf {next} e = visited (λ depth l. rw e (derived-here good next (budget - fee)))
 
-      pub visited-repeat : k ≡ Repeat → DerivesRepeat letter room places (r .left) place (budget - fee) answer exit
-          → Derives letter room places place budget answer exit
-      visited-repeat e h = let m = children-lower e in visited e (λ depth l. h depth (omega arith))
+      pub visited-parts : {left right : ℕ} {product both : Bool} → v ≡ Parts left right product both → {answer : Derived} {exit : List ℕ}
+          → DerivesParts letter room places left right product both (budget - fee) answer exit → Derives letter room places place budget answer exit
+      visited-parts e h =
+          let m = parts-lower says e in
+          visited (λ depth l. rw e (h depth (omega (arith, m .left-lower)) (omega (arith, m .both-lower))))

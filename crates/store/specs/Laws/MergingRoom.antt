@@ -263,95 +263,81 @@ module _ {kind : ℕ} (set : SetKind kind) {room : List ℕ} {places : ℕ} (g :
       longer : taken ≤ length (after (put-before (places-of room′) kind n (placed place (store-in room′ taken))))
       longer = omega (arith, put-before-longer (places-of room′) kind n place (store-in room′ taken), length-store-in room′ taken)
 
--- Two sets of a room's store, as they were read.
-module _ {kind : ℕ} (set : SetKind kind) {room : List ℕ} {places : ℕ} (g : GoodStore room places) (left right : Side)
-    (inside : (left .place < places) × (right .place < places)) where
+-- Two sets of a room's store.
+module _ {kind : ℕ} (set : SetKind kind) {room : List ℕ} {places : ℕ} (g : GoodStore room places) (left right : ℕ)
+    (inside : (left < places) × (right < places)) where
   abbrev here : List Record
   here = store-in room places
 
-  left-inside : left .place < length here
+  abbrev whole : Making
+  whole = set-of-both (places-of room) kind here left right
+
+  left-inside : left < length here
   left-inside = omega (arith, length-store-in room places, inside .0)
 
-  right-inside : right .place < length here
+  right-inside : right < length here
   right-inside = omega (arith, length-store-in room places, inside .1)
 
   -- One is used up, or both are one.
-  pub tells-right : eqb (left .place) 0 || eqb (left .place) (right .place) ≡ true
-      → Tells room (set-of-both (places-of room) kind here (left .place) (right .place)) (Placed (right .place) places) room
-  tells-right t = tells-placed g (go (eqb (left .place) 0) refl t)
+  pub tells-right : eqb left 0 || eqb left right ≡ true → Tells room whole (Placed right places) room
+  tells-right t = tells-placed g (go (eqb left 0) refl t)
     where
-      go : (b : Bool) → eqb (left .place) 0 ≡ b → b || eqb (left .place) (right .place) ≡ true
-          → set-of-both (places-of room) kind here (left .place) (right .place) ≡ placed (right .place) here
-      go true e t = none-left set (g .good) (places-of room) (left .place) (right .place) left-inside right-inside (eqb-true (left .place) 0 e)
-      go false e t = one-set set (g .good) (places-of room) (left .place) (right .place) left-inside right-inside (eqb-true (left .place) (right .place) t)
+      go : (b : Bool) → eqb left 0 ≡ b → b || eqb left right ≡ true → whole ≡ placed right here
+      go true e t = none-left set (g .good) (places-of room) left right left-inside right-inside (eqb-true left 0 e)
+      go false e t = one-set set (g .good) (places-of room) left right left-inside right-inside (eqb-true left right t)
 
-  pub tells-left : right .place ≡ 0 → Tells room (set-of-both (places-of room) kind here (left .place) (right .place)) (Placed (left .place) places) room
-  tells-left e = tells-placed g (none-right set (g .good) (places-of room) (left .place) (right .place) left-inside right-inside e)
+  pub tells-left : right ≡ 0 → Tells room whole (Placed left places) room
+  tells-left e = tells-placed g (none-right set (g .good) (places-of room) left right left-inside right-inside e)
 
-  some-left : eqb (left .place) 0 || eqb (left .place) (right .place) ≡ false → 0 < left .place
-  some-left t = go (left .place) t
+  some-left : eqb left 0 || eqb left right ≡ false → 0 < left
+  some-left t = go left t
     where
-      go : (n : ℕ) → eqb n 0 || eqb n (right .place) ≡ false → 0 < n
+      go : (n : ℕ) → eqb n 0 || eqb n right ≡ false → 0 < n
       go zero f = absurd (false≢true (sym f))
       go (suc n) f = omega arith
 
-  -- Neither is: the step that the code takes.
-  module _ (t : eqb (left .place) 0 || eqb (left .place) (right .place) ≡ false) (some-right : right .place ≡ 0 → ⊥)
-      (is-left : left ≡ side kind here (left .place)) (is-right : right ≡ side kind here (right .place))
-      {m : ℕ} (is-lower : m ≡ lower-of (left .first) (right .first)) {one other : Side}
-      (is-one : one ≡ side kind here (cond (eqb (left .first) m) (left .behind) (left .place)))
-      (is-other : other ≡ side kind here (cond (eqb (right .first) m) (right .behind) (right .place))) where
-    p : 0 < left .place
-    p = some-left t
-
-    q : 0 < right .place
+  -- Neither is: the step that the code takes, with both sets as they were read.
+  module _ (t : eqb left 0 || eqb left right ≡ false) (some-right : right ≡ 0 → ⊥)
+      {a b : Side} (is-a : a ≡ side kind here left) (is-b : b ≡ side kind here right) {m : ℕ} (is-lower : m ≡ lower-of (a .first) (b .first))
+      {one other : ℕ} (is-one : one ≡ cond (eqb (a .first) m) (a .behind) left) (is-other : other ≡ cond (eqb (b .first) m) (b .behind) right) where
+    q : 0 < right
     q = omega (arith, some-right)
 
-    step-member : m ≡ lower-of (first kind here (left .place)) (first kind here (right .place))
-    step-member = is-lower ∙ ap₂ lower-of (ap (λ (s : Side). s .first) is-left) (ap (λ (s : Side). s .first) is-right)
+    abbrev lowest : ℕ
+    lowest = lower-of (first kind here left) (first kind here right)
 
-    left-behind : (read : Side) → read ≡ side kind here (read .place)
-        → {rest : Side} → rest ≡ side kind here (cond (eqb (read .first) m) (read .behind) (read .place))
-        → rest .place ≡ left-of kind here (lower-of (first kind here (left .place)) (first kind here (right .place))) (read .place)
-    left-behind read e {rest} f =
-        ap (λ (s : Side). s .place) f
-        ∙ ap (λ (s : Side). cond (eqb (s .first) m) (s .behind) (read .place)) e
-        ∙ ap (λ (n : ℕ). left-of kind here n (read .place)) step-member
+    step-member : m ≡ lowest
+    step-member = is-lower ∙ ap₂ (λ (a b : Side). lower-of (a .first) (b .first)) is-a is-b
 
-    stepped : Step (places-of room) kind here (left .place) (right .place) m (one .place) (other .place)
+    left-behind : (place : ℕ) {s : Side} → s ≡ side kind here place → cond (eqb (s .first) m) (s .behind) place ≡ left-of kind here lowest place
+    left-behind place e = ap₂ (λ (s : Side) (n : ℕ). cond (eqb (s .first) n) (s .behind) place) e step-member
+
+    stepped : Step (places-of room) kind here left right m one other
     stepped =
-        rw (step-member, left-behind left is-left is-one, left-behind right is-right is-other)
-        (step set (g .good) (places-of room) (left .place) (right .place) p left-inside q right-inside)
+        rw (step-member, is-one ∙ left-behind left is-a, is-other ∙ left-behind right is-b)
+        (step set (g .good) (places-of room) left right (some-left t) left-inside q right-inside)
 
-    insides : (one .place < places) × (other .place < places)
+    -- What is left can be merged, and is less.
+    pub insides : (one < places) × (other < places)
     insides =
         let n = length-store-in room places in
         (omega (arith, stepped .one-inside, n), omega (arith, stepped .other-inside, n))
 
-    as-read : {s : Side} {n : ℕ} → s ≡ side kind here n → s ≡ side kind here (s .place)
-    as-read e = e ∙ ap (side kind here) (sym (ap (λ (s : Side). s .place) e))
-
-    -- What is left can be merged, and is less.
-    pub falls : one .place + other .place < left .place + right .place
+    pub falls : one + other < left + right
     falls = stepped .falls
 
-    pub can-merge : ((one .place < places) × (other .place < places))
-        × ((one ≡ side kind here (one .place)) × ((other ≡ side kind here (other .place)) × SetKind kind))
-    can-merge = (insides, (as-read is-one, (as-read is-other, set)))
-
     -- What was made of it, in the room that this left.
-    module _ {answer : Made} {room′ : List ℕ} (u : Tells room (set-of-both (places-of room) kind here (one .place) (other .place)) answer room′) where
+    module _ {answer : Made} {room′ : List ℕ} (u : Tells room (set-of-both (places-of room) kind here one other) answer room′) where
       pub can-put : {place taken : ℕ} → answer ≡ Placed place taken → GoodStore room′ taken × ((m < taken) × (place < taken))
       can-put e =
-          let h = next set g (one .place) (other .place) (insides .0) (insides .1) u e in
+          let h = next set g one other (insides .0) (insides .1) u e in
           (h .good, (omega (arith, h .more, stepped .inside, length-store-in room places), h .inside))
 
       pub put : {place taken : ℕ} → answer ≡ Placed place taken → {made : Made} {exit : List ℕ}
-          → Tells room′ (put-before (places-of room′) kind m (placed place (store-in room′ taken))) made exit
-          → Tells room (set-of-both (places-of room) kind here (left .place) (right .place)) made exit
+          → Tells room′ (put-before (places-of room′) kind m (placed place (store-in room′ taken))) made exit → Tells room whole made exit
       put e v =
-          put-there set g (one .place) (other .place) (insides .0) (insides .1) u m (stepped .is)
-          (next set g (one .place) (other .place) (insides .0) (insides .1) u e) v
+          put-there set g one other (insides .0) (insides .1) u m (stepped .is)
+          (next set g one other (insides .0) (insides .1) u e) v
 
-      pub filled : {taken : ℕ} → answer ≡ Full taken → Tells room (set-of-both (places-of room) kind here (left .place) (right .place)) (Full taken) room′
-      filled e = full-there set g (one .place) (other .place) (insides .0) (insides .1) u m (stepped .is) e
+      pub filled : {taken : ℕ} → answer ≡ Full taken → Tells room whole (Full taken) room′
+      filled e = full-there set g one other (insides .0) (insides .1) u m (stepped .is) e

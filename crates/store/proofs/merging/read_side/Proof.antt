@@ -17,22 +17,22 @@ use Rattle.store.proofs.merging.read_side.Tie as tie
 
 -- The set that a record at a place is.
 abbrev side-of : ℕ → ℕ → Record → Side
-side-of kind place r = record { place = place; first = cond (is-kind kind r) (r .left) place; behind = cond (is-kind kind r) (r .right) 0 }
+side-of kind place r = record { first = cond (is-kind kind r) (r .left) place; behind = cond (is-kind kind r) (r .right) 0 }
 
 module _ (room : List ℕ) (places kind place : ℕ) (l : place < places) (r : Record) (is : r ≡ record-at room place) where
   there : side-of kind place r ≡ side kind (store-in room places) place
   there = ap (side-of kind place) (is ∙ sym (child-in-room places room place l))
 
-  told-set : r .kind ≡ kind → _≡_ {A = Side} (record { place = place; first = r .left; behind = r .right }) (side kind (store-in room places) place)
+  told-set : r .kind ≡ kind → _≡_ {A = Side} (record { first = r .left; behind = r .right }) (side kind (store-in room places) place)
   told-set k = go ∙ there
     where
-      go : _≡_ {A = Side} (record { place = place; first = r .left; behind = r .right }) (side-of kind place r)
+      go : _≡_ {A = Side} (record { first = r .left; behind = r .right }) (side-of kind place r)
       go = rw (eq-eqb (r .kind) kind k)
 
-  told-one : (r .kind ≡ kind → ⊥) → _≡_ {A = Side} (record { place = place; first = place; behind = 0 }) (side kind (store-in room places) place)
+  told-one : (r .kind ≡ kind → ⊥) → _≡_ {A = Side} (record { first = place; behind = 0 }) (side kind (store-in room places) place)
   told-one n = go ∙ there
     where
-      go : _≡_ {A = Side} (record { place = place; first = place; behind = 0 }) (side-of kind place r)
+      go : _≡_ {A = Side} (record { first = place; behind = 0 }) (side-of kind place r)
       go = rw (ne-eqb (r .kind) kind n)
 
 read-requires : tie.Need-read-requires
