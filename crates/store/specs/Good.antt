@@ -50,7 +50,6 @@ pub record IsSet (kind : ℕ) (store : List Record) (r : Record) : Type 0 where
 -- A good store.
 pub record Good (store : List Record) : Type 0 where
   pub some : 2 ≤ length store
-  pub small : length store ≤ most-places
   pub nothing : child store nothing-place ≡ nothing-record
   pub empty-word : child store empty-word-place ≡ empty-word-record
   pub obeys : (at : ℕ) → at < length store → Obeys at (child store at)

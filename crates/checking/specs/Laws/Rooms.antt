@@ -224,7 +224,7 @@ reached-fit good letter byte x y l m budget c e =
     let a = s .x-inside in
     let b = s .y-inside in
     let w = s .kept .ready .within in
-    let g = s .kept .ready .legal in
+    let g = good .short in
     (omega arith, omega arith)
 
 -- The code of one letter.

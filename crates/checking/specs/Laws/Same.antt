@@ -22,6 +22,7 @@ use Rattle.records.specs.Laws.Record.{length-run, records-of-run}
 use Rattle.store.specs.Room.{wrong-room}
 use Rattle.loading.specs.Loading.{load}
 use Rattle.store.specs.Laws.Wall.{Grows, grows-length, Ready}
+use Rattle.store.specs.Laws.LegalRoom.{legal-room}
 use Rattle.loading.specs.Laws.OwnPlaces.{own-places, own-place, own-loaded}
 use Rattle.loading.specs.Laws.OwnCard.{own-card-good}
 use Rattle.pairs.specs.declared.pair.Pair.{Pair}
@@ -174,7 +175,9 @@ module _ (left right : List ℕ) (lefts : Bytes left) (rights : Bytes right) (wo
       record {
         left-good = h .left-good;
         right-good = h .right-good;
-        proof-good = own-card-good (h .store) (t .ready .good);
+        proof-good =
+            own-card-good (h .store) (t .ready .good)
+            (let short = legal-room work (h .room-legal) .not-large in let within = t .ready .within in omega arith);
         room-legal = h .room-legal;
         list-legal =
             not-wrong-pair-room (length (run-of-pairs (h .table))) (record { some = omega arith; not-large = omega arith; whole = omega arith });

@@ -89,7 +89,7 @@ module _ {room : List ℕ} {places : ℕ} (g : GoodStore room places) (card : Li
           go : {l : Loading} {s₀ : List Record} → LoadLaw (length room / 8) (records card) s₀ [] (records card) l
               → answer ≡ told-loading l → Mapped l map → getD map (length card / 8 - 1) 0 < most-places
           go (all-loaded h) t m =
-              let w = h .kept .ready .within in let l = h .kept .ready .legal in omega (arith, root-inside map h m)
+              let w = h .kept .ready .within in let l = g .short in omega (arith, root-inside map h m)
           go (was-full f) t m = absurd (not-both e t)
 
     -- The room is full.

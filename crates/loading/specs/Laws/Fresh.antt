@@ -14,7 +14,6 @@ use Rattle.cards.specs.Standing.{Obeys}
 use Rattle.store.specs.Room.{fresh-store}
 use Rattle.store.specs.Making.{placed, find-from, find, intern, make}
 use Rattle.store.specs.Good.{is-set, Good, IsSet, make-again}
-use Rattle.refusals.specs.Limits.{most-places}
 use Rattle.store.specs.Laws.Wall.{Ready}
 
 -- What holds at 0 and at 1 holds at both places.
@@ -52,7 +51,6 @@ pub fresh-good : Good fresh-store
 fresh-good =
     record {
       some = omega arith;
-      small = omega arith;
       nothing = refl;
       empty-word = refl;
       obeys =
@@ -70,5 +68,5 @@ fresh-good =
       in-turn = λ at two l. absurd (omega arith);
     }
 
-pub fresh-ready : (room : ℕ) → 2 ≤ room → room ≤ most-places → Ready room fresh-store
-fresh-ready room l m = record { legal = m; within = l; good = fresh-good }
+pub fresh-ready : (room : ℕ) → 2 ≤ room → Ready room fresh-store
+fresh-ready room l = record { within = l; good = fresh-good }

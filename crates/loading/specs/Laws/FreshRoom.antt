@@ -28,8 +28,7 @@ use Rattle.loading.specs.Laws.Cards.{good-card}
 pub fresh-is-ready : {size : ℕ} → LegalRoom size → Ready (size / 8) fresh-store
 fresh-is-ready {size} legal =
     let a = legal .enough in
-    let b = legal .not-large in
-    fresh-ready (size / 8) (omega arith) (omega arith)
+    fresh-ready (size / 8) (omega arith)
 
 -- A card in good standing, loaded into the fresh store of a legal room.
 pub load-fresh-law : {size : ℕ} → LegalRoom size → (card : List ℕ) → Bytes card → pattern-card card ≡ Good
@@ -63,7 +62,7 @@ module _ (room : List ℕ) (bytes : Bytes room) (legal : LegalRoom (length room)
       let b = legal .not-large in
       let n = length-fresh room a in
       record {
-        bytes = bytes-laid fresh-store (good-fits fresh-good) bytes;
+        bytes = bytes-laid fresh-store (good-fits fresh-good (omega arith)) bytes;
         fits = omega arith;
         short = omega arith;
         good = rw (store-of-laid fresh-store room) fresh-good;

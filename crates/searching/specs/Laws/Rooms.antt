@@ -8,7 +8,7 @@ use mathlib.Core.Path.{_≡_, refl, sym, _∙_, ap, ap₂, subst}
 use lib.ListN.{length}
 use Rattle.language.specs.Word.{none, one, Bytes, IsByte, Listed}
 use Rattle.machine.specs.Laws.Keeps.{extends-length}
-use Rattle.refusals.specs.Limits.{most-pairs}
+use Rattle.refusals.specs.Limits.{most-places, most-pairs}
 use Rattle.records.specs.declared.record.Record.{Record}
 use Rattle.store.specs.Room.{store-in, places-of, laid}
 use Rattle.store.specs.Good.{GoodStore}
@@ -61,12 +61,11 @@ stood-first work places pairs placed budget g p =
     }
 
 -- The pairs of a table over a store that fits its room fit their bytes.
-table-fits : {room pairs : ℕ} {store : List Record} {table : List Pair} → Ready room store → pairs ≤ most-pairs → Tabled pairs store table
+table-fits : {room pairs : ℕ} {store : List Record} {table : List Pair} → Ready room store → room ≤ most-places → pairs ≤ most-pairs → Tabled pairs store table
     → (i : ℕ) → i < length table → FittingPair (pair-at table i)
-table-fits r few t i l =
+table-fits r g few t i l =
     let inside = t .inside i l in
     let w = r .within in
-    let g = r .legal in
     let o = t .origins i l in
     let f = t .fits in
     record { left = let h = inside .0 in omega arith; right = let h = inside .1 in omega arith; origin = omega arith; letter = t .letters i l }
@@ -113,7 +112,7 @@ module _ {work₀ : List ℕ} {places : ℕ} {pairs₀ : List ℕ} {placed budge
   stands-now =
       let s = u .good-pairs .short in
       rw (u .pairs-is, u .standing-is)
-      (stands-laid table pairs₀ (table-fits (u .kept .kept .ready) (omega arith) (u .kept .tabled)) room-for (u .good-pairs .stands .bytes))
+      (stands-laid table pairs₀ (table-fits (u .kept .kept .ready) (let w = u .good .short in omega arith) (omega arith) (u .kept .tabled)) room-for (u .good-pairs .stands .bytes))
 
   pub good-pairs-now : GoodPairs pairs standing work taken
   good-pairs-now =

@@ -14,7 +14,6 @@ use Rattle.records.specs.Kind.{kind-of}
 use Rattle.store.specs.declared.finding.Found.the-variants.{Absent}
 use Rattle.store.specs.Making.{Making, placed, full, find, new-record, is-kind, members, put-before, built}
 use Rattle.store.specs.Good.{is-set, SetKind, Good, Set, none, member}
-use Rattle.refusals.specs.Limits.{most-places}
 use Rattle.store.specs.Laws.Finding.{found-within, found-holds, added-found}
 use Rattle.store.specs.Laws.Wall.{Grows, grows-refl, grows-length, Ready, Kept, kept-refl, kept-trans, Filled}
 use Rattle.store.specs.Laws.Members.{members-of-nothing, members-of-set, members-of-one, members-kept, grows-child, set-kept}
@@ -38,7 +37,7 @@ pub data BuildLaw (room kind : ℕ) (store : List Record) (ms : List ℕ) : Maki
 -- The record of a member and a set behind it, where it is absent, is written: the store is good again.
 module _ {kind : ℕ} (set : SetKind kind) {store : List Record} (g : Good store) (m rest : ℕ) (p : 0 < m) (l : m < length store)
     (e : is-kind kind (child store m) ≡ false) (q : 0 < rest) (k : rest < length store) (s : Set kind store m (members kind store rest))
-    (free : length store < most-places) (absent : find store (new-record store kind 0 m rest) ≡ Absent) where
+    (absent : find store (new-record store kind 0 m rest) ≡ Absent) where
   abbrev new : Record
   new = new-record store kind 0 m rest
 
@@ -50,7 +49,7 @@ module _ {kind : ℕ} (set : SetKind kind) {store : List Record} (g : Good store
 
   pub set-more : Good grown
   set-more =
-      good-more store g kind 0 m rest (line-of-set set refl (record { known = refl; letter = refl; left = l; right = k })) (omega arith) free absent
+      good-more store g kind 0 m rest (line-of-set set refl (record { known = refl; letter = refl; left = l; right = k })) (omega arith) absent
       (λ _. record { set = member p l e s; more = q })
       (λ room.
       make-merged room grown kind 0 m rest (set-merges set m rest p q)
@@ -128,11 +127,10 @@ module _ {room kind : ℕ} (set : SetKind kind) {store : List Record} (ready : R
       put (written f n) =
           let long : length (store′ ++ new′ ∷ []) ≡ suc (length store′) = length-append store′ (new′ ∷ []) ∙ omega arith in
           let grows : Grows store′ (store′ ++ new′ ∷ []) = record { more = new′ ∷ []; is = refl } in
-          let legal = ready .legal in
-          let good = set-more set good′ m rest p inside′ one′ q (h .inside) behind′ (omega arith) f in
+          let good = set-more set good′ m rest p inside′ one′ q (h .inside) behind′ f in
           was-built {place = length store′} {store′ = store′ ++ new′ ∷ []}
           record {
-            kept = kept-trans (h .kept) (record { grows = grows; ready = record { legal = legal; within = omega arith; good = good } });
+            kept = kept-trans (h .kept) (record { grows = grows; ready = record { within = omega arith; good = good } });
             inside = omega arith;
             lists = set-lists good grows (length store′) (omega arith) (getD-append-seam store′ new′ [] _);
             enough = λ room′ k.

@@ -7,6 +7,7 @@ use mathlib.Core.Bool.{Bool, true, false}
 use mathlib.Core.Path.{_≡_, ap}
 use lib.ListN.{length}
 use Rattle.language.specs.Laws.Derivative.{nullable}
+use Rattle.refusals.specs.Limits.{most-places}
 use Rattle.records.specs.declared.record.Record.{Record}
 use Rattle.records.specs.Record.{child}
 use Rattle.cards.specs.Mark.{bit}
@@ -22,11 +23,10 @@ bit-small : (b : Bool) → bit b < 256
 bit-small true = omega arith
 bit-small false = omega arith
 
--- The records of a good store fit their bytes.
-pub good-fits : {store : List Record} → Good store → (at : ℕ) → at < length store → Fitting (child store at)
-good-fits {store} g at l =
+-- The records of a good store of no more places than a room can have fit their bytes.
+pub good-fits : {store : List Record} → Good store → length store ≤ most-places → (at : ℕ) → at < length store → Fitting (child store at)
+good-fits {store} g few at l =
     let o = g .obeys at l in
-    let m = g .small in
     record {
       kind = line-kind (o .line);
       letter = g .letter at l;
@@ -44,8 +44,7 @@ length-store-in room places = length-first places room
 pub room-ready : {room : List ℕ} {places : ℕ} → GoodStore room places → Ready (places-of room) (store-in room places)
 room-ready {room} {places} g =
     let f = g .fits in
-    let s = g .short in
-    record { legal = omega arith; within = omega (arith, length-store-in room places); good = g .good }
+    record { within = omega (arith, length-store-in room places); good = g .good }
 
 module _ (room : List ℕ) {store store′ : List Record} (k : Kept (places-of room) store store′) where
   laid-within : 8 * length store′ ≤ length room
@@ -60,11 +59,14 @@ module _ (room : List ℕ) {store store′ : List Record} (k : Kept (places-of r
   pub store-after : store-in (laid store′ room) (length store′) ≡ store′
   store-after = store-of-laid store′ room
 
-  -- The store that a step leaves in the room is good.
+  -- The store that a step leaves has no more places than a room can have, and is good in the room.
+  few-after : {places : ℕ} → GoodStore room places → length store′ ≤ most-places
+  few-after g = let s = g .short in let w = laid-within in omega arith
+
   pub good-after : {places : ℕ} → GoodStore room places → GoodStore (laid store′ room) (length store′)
   good-after g =
       record {
-        bytes = bytes-laid store′ (good-fits (k .ready .good)) (g .bytes);
+        bytes = bytes-laid store′ (good-fits (k .ready .good) (few-after g)) (g .bytes);
         fits = let w = laid-within in omega (arith, length-after);
         short = let s = g .short in omega (arith, length-after);
         good = rw store-after (k .ready .good);

@@ -22,7 +22,6 @@ use Rattle.cards.specs.Laws.Examine.{has-empty-right}
 use Rattle.store.specs.declared.finding.Found.the-variants.{Absent}
 use Rattle.store.specs.Making.{placed, find, intern, new-record}
 use Rattle.store.specs.Good.{is-set, Good, Set, IsSet, make-again}
-use Rattle.refusals.specs.Limits.{most-places}
 use Rattle.store.specs.Laws.Finding.{absent-nowhere}
 use Rattle.store.specs.Laws.Wall.{Grows}
 use Rattle.store.specs.Laws.Members.{child-kept, members-kept, set-kept}
@@ -68,7 +67,7 @@ pattern-new store r =
 -- A good store with one new record is good: a record that obeys the table, is absent, is a set where its kind asks for one, is settled there
 -- and is made in its turn.
 module _ (store : List Record) (g : Good store) (kind letter left right : ℕ) (line : Line (length store) (new-record store kind letter left right))
-    (byte : letter < 256) (free : length store < most-places) (absent : find store (new-record store kind letter left right) ≡ Absent) where
+    (byte : letter < 256) (absent : find store (new-record store kind letter left right) ≡ Absent) where
   abbrev new : Record
   new = new-record store kind letter left right
 
@@ -141,7 +140,6 @@ module _ (store : List Record) (g : Good store) (kind letter left right : ℕ) (
   good-more new-set new-settled new-in-turn =
       record {
         some = omega (arith, length-more);
-        small = omega (arith, length-more);
         nothing = kept 0 (omega arith) ∙ g .nothing;
         empty-word = kept 1 (omega arith) ∙ g .empty-word;
         obeys =

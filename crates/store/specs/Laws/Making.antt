@@ -144,7 +144,7 @@ module _ {room : ℕ} {store : List Record} (ready : Ready room store) {kind let
     wrote : find store made ≡ Absent → length store < room → Placed room store kind letter left right (length store) (store ++ made ∷ [])
     wrote f l =
         record {
-          kept = record { grows = grows; ready = record { legal = ready .legal; within = omega (arith, n); good = good } };
+          kept = record { grows = grows; ready = record { within = omega (arith, n); good = good } };
           inside = omega (arith, n);
           means = equal-trans (equal-of-path (pattern-new store made)) (language-of-operator (kind-of kind) letter _ _);
           replays = λ room′ grown k.
@@ -160,7 +160,7 @@ module _ {room : ℕ} {store : List Record} (ready : Ready room store) {kind let
 
         good : Good (store ++ made ∷ [])
         good =
-            good-more store (ready .good) kind letter left right (can .line) (can .byte) (let legal = ready .legal in omega arith) f
+            good-more store (ready .good) kind letter left right (can .line) (can .byte) f
             (λ c. absurd (false≢true (sym no-set ∙ c)))
             (λ room′. interned room′ grows ∙ intern-found room′ (store ++ made ∷ []) made (added-found store made f))
             (λ room′ m. interned room′ (grows-refl store) ∙ intern-written room′ store made f m)

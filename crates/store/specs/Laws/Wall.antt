@@ -16,7 +16,6 @@ use Rattle.records.specs.Kind.{kind-of}
 use Rattle.cards.specs.Standing.{Line}
 use Rattle.store.specs.Making.{Making, placed, full, new-record, make}
 use Rattle.store.specs.Good.{Good}
-use Rattle.refusals.specs.Limits.{most-places}
 use Rattle.store.specs.Laws.Languages.{language-at, operator-over, language-kept}
 
 -- The second store is the first with records added at the end.
@@ -40,7 +39,6 @@ grows-language {a} g place l = rw (g .is) (language-kept a (g .more) place l)
 
 -- A store that can be worked on in a room of so many places.
 pub record Ready (room : ℕ) (store : List Record) : Type 0 where
-  pub legal : room ≤ most-places
   pub within : length store ≤ room
   pub good : Good store
 
