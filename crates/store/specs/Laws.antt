@@ -8,6 +8,7 @@ pub mod Merging
 pub mod Interning
 pub mod Choosing
 pub mod Rules
+pub mod Adding
 pub mod Growing
 pub mod Building
 pub mod Sets

@@ -1,4 +1,5 @@
--- Loading keeps the wall: it makes each record in order, so that each means its own pattern at its place.
+-- Loading keeps the wall: it makes each record in order, so that each means its own pattern at its place; where it finds no free place, it goes on
+-- from there in a larger room.
 use Prim.Native.Nat.{ℕ, _<_, _≤_}
 use native.Mathlib.Decide.{decLt}
 use native.Mathlib.Omega.{arith}
@@ -16,9 +17,10 @@ use Rattle.cards.specs.Meaning.{record-pattern, patterns, numbered}
 use Rattle.cards.specs.Standing.{Line, Obeys}
 use Rattle.cards.specs.Laws.Line.{field-put, left-child, right-child}
 use Rattle.cards.specs.Laws.Meaning.{pattern-of-record}
-use Rattle.store.specs.Making.{Making, placed, full, new-record}
-use Rattle.loading.specs.Loading.{Loading, loaded, no-room, child-place, left-place, right-place, load-after, load}
-use Rattle.store.specs.Laws.Wall.{Grows, grows-trans, grows-length, grows-language, Ready, Kept, kept-refl, kept-trans, Makeable, Placed, Filled, MakeLaw, was-placed}
+use Rattle.store.specs.Making.{Making, placed, full, after, new-record}
+use Rattle.loading.specs.Loading.{Loading, loaded, no-room, child-place, left-place, right-place, make-loaded, load-after, load, after-loading}
+use Rattle.store.specs.Laws.Wall.{Grows, grows-refl, grows-trans, grows-length, grows-language, Ready, Kept, kept-refl, kept-trans, Makeable, Placed, Longer, longer-grows, Outgrown, MakeLaw, was-placed}
+use Rattle.store.specs.Laws.Adding.{make-adds}
 use Rattle.store.specs.Laws.Making.{make-law}
 use Rattle.store.specs.Laws.Languages.{language-at, operator-over, language-of-operator, operator-equal, equal-of-path}
 
@@ -99,7 +101,8 @@ pub record AllLoaded (room : ℕ) (card store : List Record) (places : List ℕ)
 
 pub data LoadLaw (room : ℕ) (card store : List Record) (places : List ℕ) (rest : List Record) : Loading → Type 0 where
   all-loaded : {places′ : List ℕ} {store′ : List Record} → AllLoaded room card store places rest places′ store′ → LoadLaw room card store places rest (loaded places′ store′)
-  was-full : {store′ : List Record} → Filled room store store′ → LoadLaw room card store places rest (no-room store′)
+  was-full : {store′ : List Record} → Outgrown (λ room′. after-loading (load-after room′ store places rest)) room store store′
+      → LoadLaw room card store places rest (no-room store′)
 
 -- What follows the making of a record.
 abbrev pub go-on : ℕ → List ℕ → List Record → Making → Loading
@@ -108,6 +111,21 @@ go-on room places rest made =
       | placed place store′ ↦ load-after room store′ (places ++ place ∷ []) rest
       | full store′ ↦ no-room store′
     ]
+
+-- In a room of any size, only records at the end are added.
+module _ (room : ℕ) where
+  go-on-grows : (places : List ℕ) (rest : List Record)
+      → ((place : ℕ) (store : List Record) → Grows store (after-loading (load-after room store (places ++ place ∷ []) rest)))
+      → (made : Making) → Grows (after made) (after-loading (go-on room places rest made))
+  go-on-grows places rest next (placed place store) = next place store
+  go-on-grows places rest next (full store) = grows-refl store
+
+  load-grows : (store : List Record) (places : List ℕ) (rest : List Record) → Grows store (after-loading (load-after room store places rest))
+  unfolding load-after
+  load-grows store places [] = grows-refl store
+  load-grows store places (r ∷ rest) =
+      grows-trans (make-adds room store (r .kind) (r .letter) (left-place places r) (right-place places r) .grows)
+      (go-on-grows places rest (λ place store₁. load-grows store₁ (places ++ place ∷ []) rest) (make-loaded room store places r))
 
 module _ (room : ℕ) (card : List Record) (g : GoodCard card) where
   after-made : (store : List Record) (places : List ℕ) (r : Record) (rest : List Record) {place : ℕ} {store₁ : List Record}
@@ -123,7 +141,17 @@ module _ (room : ℕ) (card : List Record) (g : GoodCard card) where
         replays = λ room′ store″ h. ap (go-on room′ places rest) (p .replays room′ store″ (grows-trans (a .kept .grows) h)) ∙ a .replays room′ store″ h;
         enough = λ room′ n. ap (go-on room′ places rest) (p .enough room′ (omega (arith, grows-length (a .kept .grows)))) ∙ a .enough room′ n;
       })
-  after-made store places r rest p (was-full f) = was-full (record { kept = kept-trans (p .kept) (f .kept); fills = f .fills })
+  after-made store places r rest p (was-full {store′} f) =
+      was-full
+      (record {
+        kept = kept-trans (p .kept) (f .kept);
+        fills = f .fills;
+        goes-on = λ room′ k.
+            let w = f .fills in
+            subst (λ (made : Making). Longer store′ (after-loading (go-on room′ places rest made)))
+            (sym (p .enough room′ (omega (arith, grows-length (f .kept .grows)))))
+            (f .goes-on room′ k);
+      })
 
   -- The next record of the card can be made; once it is, the records after it are loaded.
   module _ (store : List Record) (places : List ℕ) (done : List Record) (r : Record) (rest : List Record)
@@ -167,8 +195,17 @@ module _ (room : ℕ) (card : List Record) (g : GoodCard card) where
         → {m : Making}
         → MakeLaw room store (r .kind) (r .letter) (left-place places r) (right-place places r) m
         → LoadLaw room card store places (r ∷ rest) (go-on room places rest m)
+    unfolding load-after
     load-next next (was-placed {place} {store′} p) = after-made store places r rest p (next place store′ (p .kept .ready) (next-standing p))
-    load-next next (MakeLaw.was-full f) = was-full f
+    load-next next (MakeLaw.was-full f) =
+        was-full
+        (record {
+          kept = f .kept;
+          fills = f .fills;
+          goes-on = λ room′ k.
+              longer-grows (f .goes-on room′ k)
+              (go-on-grows room′ places rest (λ place store₁. load-grows room′ store₁ (places ++ place ∷ []) rest) (make-loaded room′ store places r));
+        })
 
   load-after-law : (store : List Record) (places : List ℕ) (done rest : List Record) → card ≡ done ++ rest → length done ≡ length places
       → Ready room store → Standing card store places → LoadLaw room card store places rest (load-after room store places rest)

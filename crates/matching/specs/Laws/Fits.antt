@@ -20,7 +20,7 @@ use Rattle.cards.specs.Mark.{marked}
 use Rattle.cards.specs.Meaning.{patterns, numbered, card-pattern}
 use Rattle.store.specs.Room.{fresh-store}
 use Rattle.loading.specs.Loading.{root, Loading, load}
-use Rattle.store.specs.Laws.Wall.{Filled, grows-length, anew}
+use Rattle.store.specs.Laws.Wall.{Filled, outgrown-filled, grows-length, anew}
 use Rattle.store.specs.Laws.Making.{marked-nullable}
 use Rattle.store.specs.Laws.Languages.{language-at}
 use Rattle.loading.specs.Laws.FreshRoom.{load-fresh-law}
@@ -60,7 +60,7 @@ module _ (card word : List ℕ) (cards : Bytes card) (letters : Bytes word) (siz
   -- A call that is not refused loads the card into the fresh store, and then follows the word.
   module _ (u : Unrefused card word size) where
     after-load : {l : Loading} → LoadLaw (size / 8) (records card) fresh-store [] (records card) l → Call card word size budget (follow-loaded (size / 8) word budget l)
-    after-load (was-full f) = full-in-loading u f
+    after-load (was-full f) = full-in-loading u (outgrown-filled f)
     after-load (all-loaded {places′ = places} {store′ = store} a) =
         let c = card-loaded card (u .card-good) a in
         followed c refl (follow-law letters (size / 8) (root places) store budget (c .inside) (a .kept .ready))

@@ -16,7 +16,7 @@ use Rattle.cards.specs.Examine.{pattern-card}
 use Rattle.cards.specs.Meaning.{card-pattern}
 use Rattle.store.specs.Room.{fresh-store, wrong-room}
 use Rattle.loading.specs.Loading.{Loading, root}
-use Rattle.store.specs.Laws.Wall.{grows-length, grows-language, Kept, kept-trans, Filled}
+use Rattle.store.specs.Laws.Wall.{grows-length, grows-language, Kept, kept-trans, Filled, outgrown-filled}
 use Rattle.store.specs.Laws.Languages.{language-at}
 use Rattle.store.specs.Laws.LegalRoom.{legal-room}
 use Rattle.loading.specs.Laws.FreshRoom.{fresh-is-ready}
@@ -65,7 +65,7 @@ module _ (left right : List ℕ) (lefts : Bytes left) (rights : Bytes right) (si
       → OpenLaw left right (size / 8) (left-opened (size / 8) (records right) l)
   left-law (all-loaded {store′ = s} a) =
       right-law (card-loaded left left-good a) (load-law (size / 8) (records right) (good-card right rights right-good) s (a .kept .ready))
-  left-law (was-full f) = was-filled f
+  left-law (was-full f) = was-filled (outgrown-filled f)
 
   pub open-law : OpenLaw left right (size / 8) (open-both (size / 8) (records left) (records right))
   unfolding open-both

@@ -1,5 +1,6 @@
 -- A set built of its members keeps the wall: records are only added at the end, the store stays good, the place's members are the list, it
--- stops only for a new record with no free place, and in any room that holds what it placed it does the same.
+-- stops only for a new record with no free place, from where it goes on in a larger room, and in any room that holds what it placed it does the
+-- same.
 use Prim.Native.Nat.{ℕ, zero, suc, _<_, _≤_}
 use native.Mathlib.Omega.{arith}
 use mathlib.Core.Bool.{false, false≢true}
@@ -12,14 +13,15 @@ use Rattle.records.specs.declared.record.Record.{Record}
 use Rattle.records.specs.Record.{child}
 use Rattle.records.specs.Kind.{kind-of}
 use Rattle.store.specs.declared.finding.Found.the-variants.{Absent}
-use Rattle.store.specs.Making.{Making, placed, full, find, new-record, is-kind, members, put-before, built}
+use Rattle.store.specs.Making.{Making, placed, full, after, find, new-record, is-kind, members, put-before, built}
 use Rattle.store.specs.Good.{is-set, SetKind, Good, Set, none, member}
 use Rattle.store.specs.Laws.Finding.{found-within, found-holds, added-found}
-use Rattle.store.specs.Laws.Wall.{Grows, grows-refl, grows-length, Ready, Kept, kept-refl, kept-trans, Filled}
+use Rattle.store.specs.Laws.Wall.{Grows, grows-refl, grows-length, Ready, Kept, kept-refl, kept-trans, longer-grows, longer-by-one, Outgrown}
 use Rattle.store.specs.Laws.Members.{members-of-nothing, members-of-set, members-of-one, members-kept, grows-child, set-kept}
 use Rattle.store.specs.Laws.Interning.{Way, found, written, stopped, way, intern-found, intern-written}
 use Rattle.store.specs.Laws.Choosing.{built-none, built-more, put-before-some, set-of-member}
 use Rattle.store.specs.Laws.Rules.{make-merged, set-merges, line-of-set}
+use Rattle.store.specs.Laws.Adding.{put-before-adds}
 use Rattle.store.specs.Laws.Growing.{good-more}
 
 -- A set of a kind was built.
@@ -32,7 +34,8 @@ pub record Built (room kind : ℕ) (store : List Record) (ms : List ℕ) (place 
 -- The law of building.
 pub data BuildLaw (room kind : ℕ) (store : List Record) (ms : List ℕ) : Making → Type 0 where
   was-built : {place : ℕ} {store′ : List Record} → Built room kind store ms place store′ → BuildLaw room kind store ms (placed place store′)
-  ran-out : {store′ : List Record} → Filled room store store′ → BuildLaw room kind store ms (full store′)
+  ran-out : {store′ : List Record} → Outgrown (λ room′. after (built room′ kind store ms)) room store store′
+      → BuildLaw room kind store ms (full store′)
 
 -- The record of a member and a set behind it, where it is absent, is written: the store is good again.
 module _ {kind : ℕ} (set : SetKind kind) {store : List Record} (g : Good store) (m rest : ℕ) (p : 0 < m) (l : m < length store)
@@ -137,7 +140,15 @@ module _ {room kind : ℕ} (set : SetKind kind) {store : List Record} (ready : R
                 before room′ (omega arith) ∙ put-before-some room′ kind m rest store′ q ∙ intern-written room′ store′ new′ f (omega arith);
           }
       put (stopped f n) =
-          ran-out record { kept = h .kept; fills = let w = h .kept .ready .within in omega arith }
+          let w = h .kept .ready .within in
+          ran-out
+          record {
+            kept = h .kept;
+            fills = omega arith;
+            goes-on = λ room′ k.
+                rw (before room′ (omega arith) ∙ put-before-some room′ kind m rest store′ q ∙ intern-written room′ store′ new′ f (omega arith))
+                (longer-by-one store′ new′);
+          }
 
     put-before-law : BuildLaw room kind store (m ∷ ms) (put-before room kind m (placed rest store′))
     put-before-law = go rest refl
@@ -151,7 +162,14 @@ module _ {room kind : ℕ} (set : SetKind kind) {store : List Record} (ready : R
   one-more : {m : ℕ} {ms : List ℕ} → 0 < m → m < length store → is-kind kind (child store m) ≡ false → Set kind store m ms
       → {made : Making} → BuildLaw room kind store ms made → BuildLaw room kind store (m ∷ ms) (put-before room kind m made)
   one-more p l e s (was-built h) = put-before-law p l e s h
-  one-more p l e s (ran-out h) = ran-out h
+  one-more {m} {ms} p l e s (ran-out h) =
+      ran-out
+      record {
+        kept = h .kept;
+        fills = h .fills;
+        goes-on = λ room′ k.
+            rw (built-more room′ kind store m ms) (longer-grows (h .goes-on room′ k) (put-before-adds room′ kind m (built room′ kind store ms) .grows));
+      }
 
   pub build-law : {low : ℕ} {ms : List ℕ} → Set kind store low ms → BuildLaw room kind store ms (built room kind store ms)
   build-law none =

@@ -1,5 +1,5 @@
 -- Making keeps the wall: it only adds records at the end, keeps the store good, means its operator, stops only for a new record
--- with no free place, and does the same again in any store grown from there.
+-- with no free place, goes on from there in a larger room, and does the same again in any store grown from what it left.
 use Prim.Native.Nat.{ℕ, suc, _<_}
 use native.Mathlib.Omega.{arith}
 use mathlib.Core.Bool.{Bool, true, false, _||_, cond, false≢true}
@@ -21,7 +21,7 @@ use Rattle.store.specs.declared.making.Ruled.the-variants.{Gives, Stays,
 use Rattle.store.specs.Making.{Making, find, intern, nothing-place, empty-word-place, sequence-rule, rule, new-record, members, merged, built, make}
 use Rattle.store.specs.Good.{is-set, SetKind, Good}
 use Rattle.store.specs.Laws.Finding.{found-within, found-holds, added-found}
-use Rattle.store.specs.Laws.Wall.{Grows, grows-refl, grows-trans, Ready, kept-refl, Makeable, Placed, MakeLaw, was-placed, was-full}
+use Rattle.store.specs.Laws.Wall.{Grows, grows-refl, grows-trans, longer-by-one, Ready, kept-refl, Makeable, Placed, MakeLaw, was-placed, was-full}
 use Rattle.store.specs.Laws.Languages.{language-at, operator-over, language-of-operator, equal-of-path}
 use Rattle.store.specs.Laws.Members.{members-set}
 use Rattle.store.specs.Laws.Merging.{merged-set}
@@ -168,7 +168,14 @@ module _ {room : ℕ} {store : List Record} (ready : Ready room store) {kind let
     stays-law : {m : Making} → Way room store made m → MakeLaw room store kind letter left right m
     stays-law (found f) = was-placed (used f)
     stays-law (written f l) = was-placed (wrote f l)
-    stays-law (stopped f l) = was-full (record { kept = kept-refl ready; fills = let w = ready .within in omega arith })
+    stays-law (stopped f l) =
+        let w = ready .within in
+        was-full
+        record {
+          kept = kept-refl ready;
+          fills = omega arith;
+          goes-on = λ room′ k. rw (interned room′ (grows-refl store) ∙ intern-written room′ store made f (omega arith)) (longer-by-one store made);
+        }
 
   -- A set: those of its children, merged and built.
   module _ (set : SetKind kind) (e : rule (kind-of kind) left right ≡ Merges) where
@@ -193,7 +200,8 @@ module _ {room : ℕ} {store : List Record} (ready : Ready room store) {kind let
 
     merges-law : {m : Making} → BuildLaw room kind store both m → MakeLaw room store kind letter left right m
     merges-law (was-built h) = was-placed (set-placed h)
-    merges-law (ran-out h) = was-full h
+    merges-law (ran-out h) =
+        was-full record { kept = h .kept; fills = h .fills; goes-on = λ room′ k. rw (is-built room′ (grows-refl store)) (h .goes-on room′ k) }
 
   pub make-law : MakeLaw room store kind letter left right (make room store kind letter left right)
   make-law = go (says (kind-of kind) left right)

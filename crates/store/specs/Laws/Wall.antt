@@ -2,19 +2,19 @@
 --   grows     only records at the end are added, where a step stops too
 --   good      the store stays good, where a step stops too
 --   means     the language at the made place is the operator's over the parts' languages
---   stops     only for a new record with no free place, and what was placed by then stands
+--   stops     only for a new record with no free place, and what was placed by then stands; in a larger room it goes on from there
 --   replays   done again in any store that has grown from there, it gives the same place and adds nothing
 --   enough    in any room that holds what it placed it does the same
 use Prim.Native.Nat.{ℕ, _<_, _≤_}
 use native.Mathlib.Omega.{arith}
-use mathlib.Core.List.{List, [], _++_, append-assoc, append-nil}
+use mathlib.Core.List.{List, [], _∷_, _++_, append-assoc, append-nil}
 use mathlib.Core.Path.{_≡_, refl, sym, _∙_, ap}
 use lib.ListN.{length, length-append}
 use Rattle.language.specs.Language.{Equal}
 use Rattle.records.specs.declared.record.Record.{Record}
 use Rattle.records.specs.Kind.{kind-of}
 use Rattle.cards.specs.Standing.{Line}
-use Rattle.store.specs.Making.{Making, placed, full, new-record, make}
+use Rattle.store.specs.Making.{Making, placed, full, new-record, make, after}
 use Rattle.store.specs.Good.{Good}
 use Rattle.store.specs.Laws.Languages.{language-at, operator-over, language-kept}
 
@@ -36,6 +36,17 @@ grows-length {a} g = omega (arith, ap length (g .is), length-append a (g .more))
 -- The language at a place stays as it is.
 pub grows-language : {a b : List Record} → Grows a b → (place : ℕ) → place < length a → Equal (language-at b place) (language-at a place)
 grows-language {a} g place l = rw (g .is) (language-kept a (g .more) place l)
+
+-- The second store begins with the first and is longer.
+pub record Longer (store store′ : List Record) : Type 0 where
+  pub grows : Grows store store′
+  pub longer : length store < length store′
+
+pub longer-grows : {a b c : List Record} → Longer a b → Grows b c → Longer a c
+longer-grows h g = record { grows = grows-trans (h .grows) g; longer = let l = h .longer in omega (arith, grows-length g) }
+
+pub longer-by-one : (store : List Record) (r : Record) → Longer store (store ++ r ∷ [])
+longer-by-one store r = record { grows = record { more = r ∷ []; is = refl }; longer = omega (arith, length-append store (r ∷ [])) }
 
 -- A store that can be worked on in a room of so many places.
 pub record Ready (room : ℕ) (store : List Record) : Type 0 where
@@ -71,10 +82,20 @@ pub record Filled (room : ℕ) (store store′ : List Record) : Type 0 where
   pub kept : Kept room store store′
   pub fills : length store′ ≡ room
 
+-- So a step stopped; `leaves` tells the store that the step leaves in a room of so many places. In every larger room it goes on from there.
+pub record Outgrown (leaves : ℕ → List Record) (room : ℕ) (store store′ : List Record) : Type 0 where
+  pub kept : Kept room store store′
+  pub fills : length store′ ≡ room
+  pub goes-on : (room′ : ℕ) → room < room′ → Longer store′ (leaves room′)
+
+pub outgrown-filled : {leaves : ℕ → List Record} {room : ℕ} {store store′ : List Record} → Outgrown leaves room store store′ → Filled room store store′
+outgrown-filled h = record { kept = h .kept; fills = h .fills }
+
 -- The law of making.
 pub data MakeLaw (room : ℕ) (store : List Record) (kind letter left right : ℕ) : Making → Type 0 where
   was-placed : {place : ℕ} {store′ : List Record} → Placed room store kind letter left right place store′ → MakeLaw room store kind letter left right (placed place store′)
-  was-full : {store′ : List Record} → Filled room store store′ → MakeLaw room store kind letter left right (full store′)
+  was-full : {store′ : List Record} → Outgrown (λ room′. after (make room′ store kind letter left right)) room store store′
+      → MakeLaw room store kind letter left right (full store′)
 
 -- A step that led from one store to another, done again: in a store that has grown from the second, where it adds nothing; or anew
 -- from the first, in a room that holds the second.
