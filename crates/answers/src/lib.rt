@@ -1,5 +1,6 @@
 // The answers of the three calls, declared once: the calls below the door give them, and the door hands them on as they are.
 // The paper's number and values for each case stand in specs/: Matching.antt, Comparing.antt and Checking.antt.
+#![tactic(auto)]
 
 // The answer of `fits`, with these values in this order:
 //   Yes, No        places, visits

@@ -1,5 +1,7 @@
 // Checking: does a list of pairs prove that two cards' patterns allow the same words? `check` takes any bytes and asks nothing of its caller.
 // The definitions that its promise cites stand in specs/; specs/Lib.antt lists them.
+#![tactic(auto)]
+
 ghost use Rattle.checking.specs.Promise.{Checks};
 
 use crate::opened::check_opened;

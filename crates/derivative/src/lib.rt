@@ -1,5 +1,7 @@
 // The derivative over a store's places, by recursion on the place: a child stands lower than its parent.
 // The definitions that the contracts cite stand in specs/; specs/Lib.antt lists them. Nothing of this is offered to others.
+#![tactic(auto)]
+
 ghost use Rattle.std.specs.Prelude.{◌≡◌, cond, ℕ, ◌<◌};
 ghost use Rattle.store.specs.Room.{store_in, places_of, laid};
 ghost use Rattle.store.specs.Making.{after};

@@ -6,6 +6,8 @@
 // - 5 and 6: the rooms lent, of 32,768 and 8,192 bytes, are legal.
 // - 10: a difference's word is never longer than the pairs placed, at most 1,024, and the word room has 1,024 bytes.
 // - 11: the program never checks.
+#![tactic(auto)]
+
 use jobtext::MOST_ANSWER;
 use libc::{STDIN_FILENO, STDOUT_FILENO};
 use refusals::limits::MOST_JOB;

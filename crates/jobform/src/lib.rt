@@ -1,5 +1,7 @@
 // A job, read from its text: the job that the text is the text of, or none. The definitions that the contracts cite stand in specs/;
 // specs/Lib.antt lists them.
+#![tactic(auto)]
+
 ghost use Rattle.std.specs.Prelude.{◌*◌, ◌≤◌, length};
 ghost use Rattle.jobform.specs.Told.{ReadsLines, Reads};
 

@@ -1,5 +1,7 @@
 // The job text: `answer` takes any bytes, asks nothing of its caller, and lays down the whole text that the job program writes.
 // The definitions that its promise cites stand in specs/; specs/Lib.antt lists them.
+#![tactic(auto)]
+
 ghost use Rattle.std.specs.Prelude.{◌*◌, ◌≤◌, length};
 ghost use Rattle.refusals.specs.Limits.{most_job};
 ghost use Rattle.jobtext.specs.Promise.{AnswersIn};

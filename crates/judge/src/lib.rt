@@ -26,6 +26,8 @@
 //
 // The answers are those of the crate `answers`, which says what each tells: a program that calls the door names it too.
 // The promises that the contracts cite stand in specs/Promise.antt of matching, comparing and checking.
+#![tactic(auto)]
+
 ghost use Rattle.matching.specs.Promise.{Fits};
 ghost use Rattle.comparing.specs.Promise.{Compares};
 ghost use Rattle.checking.specs.Promise.{Checks};

@@ -1,5 +1,7 @@
 // Matching: does a word fit a card's pattern? `fits` takes any bytes and asks nothing of its caller.
 // The definitions that its promise cites stand in specs/; specs/Lib.antt lists them.
+#![tactic(auto)]
+
 ghost use Rattle.std.specs.Prelude.{◌<◌};
 ghost use Rattle.store.specs.Room.{store_in, places_of};
 ghost use Rattle.store.specs.Good.{GoodStore};

@@ -7,9 +7,12 @@ use Rattle.language.specs.Order.{Lower, here, after, Before, shorter, lower}
 
 -- Strict.
 
+lower_differ : {w v : Word} → Lower w v → w ≡ v → ⊥
+lower_differ (here {c} {d} l) e = let same : c ≡ d = cc in omega arith
+lower_differ (after {w = w} {v = v} h) e = let same : w ≡ v = cc in lower_differ h same
+
 lower_irrefl : (w : Word) → Lower w w → ⊥
-lower_irrefl (c ∷ w) (here l) = omega arith
-lower_irrefl (c ∷ w) (after h) = lower_irrefl w h
+lower_irrefl w h = lower_differ h refl
 
 pub before_irrefl : (w : Word) → Before w w → ⊥
 before_irrefl w (shorter l) = omega arith

@@ -11,10 +11,10 @@ use Rattle.std.proofs.Math.Path.{refl}
 use Rattle.std.proofs.Math.Dec.{ltb}
 use borrow.Author.Tests.{ltb-true, lt-ltb, le-ltb}
 use Rattle.language.specs.Word.{IsByte, Listed}
-use Rattle.machine.specs.Laws.Machine.{Stepped, Machine, Sense, StepLaw, was_stepped, Lawful}
+use Rattle.machine.specs.Laws.Machine.{Stepped, Machine, Sense, StepLaw, was_stepped, Lawful, was_halted}
 use Rattle.machine.specs.Laws.Search.{Search, same, different, Going, on, ends, after_going, search_after, after_step, turned, looked, row_at, word_of, stands_in, marks_agree, look, by_letter, by_letters, take_pairs, search}
 use Rattle.machine.specs.Laws.Redoing.{Redone, redone, Redoing}
-use Rattle.machine.specs.Laws.Keeps.{Tabled, tabled_none, length_next, extends_length, KeptBoth, step_kept, KeepsSearch, keeps_same, keeps_different, KeepsGoing, keeps_on, keeps_ends_different, look_next, right_next, look_keeps, look_next_keeps, right_next_keeps, by_letter_keeps, by_letters_keeps, take_pairs_keeps}
+use Rattle.machine.specs.Laws.Keeps.{Tabled, tabled_none, length_next, extends_length, KeptBoth, step_kept, KeepsSearch, keeps_same, keeps_different, KeepsGoing, keeps_on, keeps_ends_different, look_next, right_next, look_keeps, look_next_keeps, right_next_keeps, by_letter_keeps, by_letters_keeps, take_pairs_keeps, keeps_stopped, keeps_ends_stopped}
 
 -- The second search comes to the first one's answer, with the same table, and what it has stands beside what the first has.
 pub data AlsoSearch {Has Row : Type 0} (Beside : Has → Has → Type 0) : Search Has Row → Search Has Row → Type 0 where
@@ -55,10 +55,12 @@ module _ {State Has Row : Type 0} {M : Machine State Has Row} {S : Sense State H
   before_going : {h : Has} {table : List Row} {g : Going Has Row} → KeepsGoing M S pairs h table g → WithinGoing S end pairs' g → Within S end pairs' h table
   before_going (keeps_on k) (within_on w) = within_before k w
   before_going (keeps_ends_different k) (within_ends w) = within_before k w
+  before_going (keeps_ends_stopped _ _) x7 = elim x7 [ ]
 
   before_search : {h : Has} {table : List Row} {s : Search Has Row} → KeepsSearch M S pairs h table s → WithinSearch S end pairs' s → Within S end pairs' h table
   before_search (keeps_same k) (within_same w) = within_before k w
   before_search (keeps_different k) (within_different w) = within_before k w
+  before_search (keeps_stopped _ _) x7 = elim x7 [ ]
 
   -- A reached pair is looked at.
   look_again : (x y : State) (origin letter : ℕ) (word : List ℕ) {h h' : Has} (table : List Row) → Beside h h'
@@ -78,6 +80,7 @@ module _ {State Has Row : Type 0} {M : Machine State Has Row} {S : Sense State H
           let l = w.fits in
           let free : length table < pairs' = omega (arith, length_next table reached) in
           rw (lt-ltb (length table) pairs' free) (also_on beside)
+      go true false false x4 = elim x4 [ ]
 
   -- A step, and a part of the search from the state it comes to.
   step_again : {h h' : Has} {table : List Row} → S.Ready h → Tabled M S pairs h table → Beside h h' → (c : ℕ) → IsByte c → (x : State) → S.Stands h x
@@ -99,6 +102,7 @@ module _ {State Has Row : Type 0} {M : Machine State Has Row} {S : Sense State H
 
           then : {s' : Stepped State Has} → Redone Beside y k s' → AlsoGoing Beside (next y k) (after_step table s' next')
           then (redone {k'} b) = again y k k' kept y-stands b within
+      go _ e (was_halted _ _ _) within = elim within [ ]
 
   -- The pair n by one letter.
   by_letter_again : (n c : ℕ) → IsByte c → {h h' : Has} {table : List Row} → n < length table → S.Ready h → Tabled M S pairs h table → Beside h h'
@@ -128,6 +132,7 @@ module _ {State Has Row : Type 0} {M : Machine State Has Row} {S : Sense State H
     where
       then : {g' : Going Has Row} → AlsoGoing Beside (ends (different word left_has k t)) g' → AlsoGoing Beside (ends (different word left_has k t)) (after_going g' next')
       then (also_ends b) = also_ends b
+  going_then_again (keeps_ends_stopped _ _) first next next' keeps again within = elim within [ ]
 
   search_then_again : {h : Has} {table : List Row} {g g' : Going Has Row} → KeepsGoing M S pairs h table g → (WithinGoing S end pairs' g → AlsoGoing Beside g g')
       → (next next' : Has → List Row → Search Has Row)
@@ -143,6 +148,7 @@ module _ {State Has Row : Type 0} {M : Machine State Has Row} {S : Sense State H
     where
       then : {g' : Going Has Row} → AlsoGoing Beside (ends (different word left_has k t)) g' → AlsoSearch Beside (different word left_has k t) (search_after g' next')
       then (also_ends b) = also_different b
+  search_then_again (keeps_ends_stopped _ _) first next next' keeps again within = elim within [ ]
 
   -- The pair n by each of these letters.
   by_letters_again : (n : ℕ) (rest : List ℕ) → ((c : ℕ) → Listed rest c → IsByte c) → {h h' : Has} {table : List Row} → n < length table → S.Ready h

@@ -13,7 +13,7 @@ use Rattle.language.specs.Word.{IsByte, Listed}
 use Rattle.machine.specs.Laws.Machine.{Stepped, Machine, Sense, StepLaw, was_stepped, was_halted, Lawful}
 use Rattle.machine.specs.Laws.Search.{Search, same, Going, on, ends, after_going, search_after, after_step, turned, looked, row_at, word_of, stands_in, marks_agree, look, by_letter, by_letters, take_pairs, search}
 use Rattle.machine.specs.Laws.Price.{Priced, letters_cost, table_cost}
-use Rattle.machine.specs.Laws.Keeps.{Tabled, tabled_none, extends_length, extends_row, KeptBoth, KeepsSearch, keeps_same, KeepsGoing, keeps_on, look_keeps, by_letter_keeps, by_letters_keeps, take_pairs_keeps, look_next, right_next}
+use Rattle.machine.specs.Laws.Keeps.{Tabled, tabled_none, extends_length, extends_row, KeptBoth, KeepsSearch, keeps_same, KeepsGoing, keeps_on, look_keeps, by_letter_keeps, by_letters_keeps, take_pairs_keeps, look_next, right_next, keeps_ends_stopped, keeps_ends_different, keeps_stopped, keeps_different}
 
 -- The search comes to "same".
 data IsSame {Has Row : Type 0} (k : Has) (table : List Row) : Search Has Row → Type 0 where
@@ -121,6 +121,8 @@ module _ {State Has Row : Type 0} {M : Machine State Has Row} {S : Sense State H
     -- What the search keeps, up to its end.
     kept_to_same : {h : Has} {table : List Row} {s : Search Has Row} → KeepsSearch M S pairs h table s → IsSame end all s → KeptBoth M S pairs h table end all
     kept_to_same (keeps_same kept) is_same = kept
+    kept_to_same (keeps_different _) x5 = elim x5 [ ]
+    kept_to_same (keeps_stopped _ _) x8 = elim x8 [ ]
 
     -- No pair left costs nothing.
     all_taken : (n : ℕ) {h : Has} {table : List Row} → length table ≤ n → IsSame end all (same h table) → P.unspent h ≡ cost_from n + P.unspent end
@@ -135,6 +137,8 @@ module _ {State Has Row : Type 0} {M : Machine State Has Row} {S : Sense State H
     search_then_costs n m cost split (keeps_on {k} {table' = t} kept) (costs_on paid) next costs ends_same =
         let rest = costs k t kept ends_same in
         omega arith
+    search_then_costs n m cost split (keeps_ends_different _) _ next costs ends_same = elim ends_same [ ]
+    search_then_costs n m cost split (keeps_ends_stopped _ _) _ next costs ends_same = elim ends_same [ ]
 
     -- The pairs from number n on, with turns enough.
     take_pairs_costs : (turns n : ℕ) → pairs ≤ n + turns → {h : Has} {table : List Row} → S.Ready h → Tabled M S pairs h table

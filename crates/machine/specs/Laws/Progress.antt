@@ -91,6 +91,7 @@ module _ {State Has Row : Type 0} {M : Machine State Has Row} {S : Sense State H
   toward_before : {h : Has} {t : List Row} {g : Going Has Row} → KeepsGoing M S pairs h t g → Toward g → S.Grows h end × Extends t table₁
   toward_before (keeps_on kept) (toward_on g e) = (laws.grows_trans kept.grows g, extends_trans kept.extends e)
   toward_before {h} {t} (keeps_ends_stopped kept why) (toward_stop n k u) = (subst (S.Grows h) k kept.grows, subst (Extends t) u kept.extends)
+  toward_before (keeps_ends_different _) x5 = elim x5 [ ]
 
   -- The table beside.
   tabled_beside : {h h' : Has} {t : List Row} → Beside h h' → Tabled M S pairs h t → Tabled M S pairs' h' t
@@ -128,6 +129,7 @@ module _ {State Has Row : Type 0} {M : Machine State Has Row} {S : Sense State H
           (by_pair (sym n) (subst (λ (e : Has). Beside e h') k beside) (laws.grows_refl h')
           (subst (λ (a : List Row). Extends a (t ++ reached ∷ [])) u (record { more = reached ∷ []; is = refl }))
           longer))
+      go false q r e x3 = elim x3 [ ]
 
   -- A step, and a part of the search from the state it comes to.
   module _ {h h' : Has} {t : List Row} (ready : S.Ready h) (tabled : Tabled M S pairs h t) (beside : Beside h h') (c : ℕ) (byte : IsByte c) (x : State) (x-stands : S.Stands h x)
@@ -196,6 +198,7 @@ module _ {State Has Row : Type 0} {M : Machine State Has Row} {S : Sense State H
       then (keeps_on {k = l} {table' = v} kept₂) (went_past f) = went_past (further_after (keeps' l v kept₂) f)
       then (keeps_ends_different kept₂) (went_past f) = went_past f
       then (keeps_ends_stopped kept₂ why₂) (went_past f) = went_past f
+  going_then_beyond (keeps_ends_different _) second first next next' keeps keeps' beyond toward = elim toward [ ]
 
   -- The search stops there.
   data StopsThere : Search Has Row → Type 0 where
@@ -203,6 +206,8 @@ module _ {State Has Row : Type 0} {M : Machine State Has Row} {S : Sense State H
 
   searched_before : {h : Has} {t : List Row} {s : Search Has Row} → KeepsSearch M S pairs h t s → StopsThere s → S.Grows h end × Extends t table₁
   searched_before {h} {t} (keeps_stopped kept why) (stops_there n k u) = (subst (S.Grows h) k kept.grows, subst (Extends t) u kept.extends)
+  searched_before (keeps_same _) x5 = elim x5 [ ]
+  searched_before (keeps_different _) x6 = elim x6 [ ]
 
   search_then_beyond : {h h' : Has} {t : List Row} {g g' : Going Has Row} → KeepsGoing M S pairs h t g → KeepsGoing M S pairs' h' t g' → (Toward g → Beyond g g')
       → (next next' : Has → List Row → Search Has Row)
@@ -223,6 +228,7 @@ module _ {State Has Row : Type 0} {M : Machine State Has Row} {S : Sense State H
       then (keeps_on {k = l} {table' = v} kept₂) (went_past f) = further_searched (keeps' l v kept₂) f
       then (keeps_ends_different kept₂) (went_past f) = f
       then (keeps_ends_stopped kept₂ why₂) (went_past f) = f
+  search_then_beyond (keeps_ends_different _) second first next next' keeps keeps' beyond there = elim there [ ]
 
   -- The pair n by each of these letters.
   by_letters_beyond : (n : ℕ) (rest : List ℕ) → ((c : ℕ) → Listed rest c → IsByte c) → {h h' : Has} {t : List Row} → n < length t → S.Ready h → Tabled M S pairs h t → Beside h h'
@@ -265,6 +271,8 @@ module _ {State Has Row : Type 0} {M : Machine State Has Row} {S : Sense State H
             (λ k u kept. take_pairs_keeps laws letters bytes turns' (suc n) kept.ready kept.tabled)
             beyond
             there
+        go false e beyond there = elim there [ ]
+    take_pairs_beyond zero _ n l ready tabled beside there = elim there [ ]
 
     searched_beyond : {h h' : Has} → S.Ready h → Beside h h' → (x y : State) → S.Stands h x → S.Stands h y
         → StopsThere (search M pairs letters x y h) → FurtherSearch (search M pairs' letters x y h')
