@@ -5,7 +5,7 @@
 // The answer of `fits`, with these values in this order:
 //   Yes, No        places, visits
 //   Refused        number, places, visits
-#[derive(Drop)]
+#[derive(Clone, Copy)]
 pub enum Match {
     Yes(usize, u32),
     No(usize, u32),
@@ -17,7 +17,7 @@ pub enum Match {
 //   Different      length of the word, whether the left side has it, pairs, places, visits; the word stands at the start of the word room
 //   Refused        number, pairs, places, visits
 //   WordRoomShort  length wanted, pairs, places, visits; this is number 10
-#[derive(Drop)]
+#[derive(Clone, Copy)]
 pub enum Comparison {
     Same(usize, usize, u32),
     Different(usize, bool, usize, usize, u32),
@@ -31,7 +31,7 @@ pub enum Comparison {
 //   MarksDiffer     pair, places, visits; rejected, since the marks of the pair differ
 //   NotListed       pair, letter, places, visits; rejected, since the pair leads by the letter to one that is not listed
 //   Refused         number, places, visits
-#[derive(Drop)]
+#[derive(Clone, Copy)]
 pub enum Checked {
     Accepted(usize, u32),
     OpeningMissing(usize, u32),

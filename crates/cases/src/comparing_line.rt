@@ -27,7 +27,7 @@ const HAD: usize = 7;
 const BUDGET: usize = 8;
 
 // What was told of the rooms: the pairs, the places and the visits, and the bytes written to the word room.
-#[derive(Drop)]
+#[derive(Clone, Copy)]
 struct Left {
     pairs: usize,
     places: usize,

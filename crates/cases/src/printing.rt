@@ -4,7 +4,7 @@ use lines::printing::{bytes, number, words};
 use lines::rooms::taken;
 
 // The places taken and the visits made.
-#[derive(Drop)]
+#[derive(Clone, Copy)]
 pub struct Counts {
     pub places: usize,
     pub visits: u32,

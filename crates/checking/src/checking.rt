@@ -15,7 +15,7 @@ use pairs::pair::PAIR;
 use store::interning::marked_at;
 
 // Passes, with the places taken and the budget left; or an end, the answer of the call.
-#[derive(Drop)]
+#[derive(Clone, Copy)]
 pub enum Passing {
     Passes(usize, u32),
     Ends(Checked),

@@ -8,7 +8,7 @@ ghost use Rattle.searching.specs.Told.{OrderedPairs, found_word};
 use pairs::pair::read;
 
 // The word is written at the start of the word room, and is so long; or the word room is too short for a word so long.
-#[derive(Drop)]
+#[derive(Clone, Copy)]
 pub enum Word {
     Written(usize),
     Short(usize),

@@ -9,7 +9,7 @@ ghost use Rattle.derivative.specs.Told.{BothCome};
 use crate::{Derived, derive};
 
 // Both derived places, the places then taken and the budget left; or the number that stopped one, and these two as they stood.
-#[derive(Drop)]
+#[derive(Clone, Copy)]
 pub enum Both {
     At(usize, usize, usize, u32),
     Stopped(u8, usize, u32),

@@ -25,7 +25,7 @@ pub mod both;
 const PRICE: u32 = 1;
 
 // The derived place, the places then taken and the budget left; or the number that stopped it, and these two as they stood.
-#[derive(Drop)]
+#[derive(Clone, Copy)]
 pub enum Derived {
     At(usize, usize, u32),
     Stopped(u8, usize, u32),
@@ -33,7 +33,7 @@ pub enum Derived {
 
 // What a visited record asks for. Either it is derived at once, to a place. Or its left part is derived; of its right part then two things are
 // said: whether the product of the derived left part with it is made, and whether it is derived too and the choice of both made.
-#[derive(Drop)]
+#[derive(Clone, Copy)]
 pub enum Visited {
     Leaf(usize),
     Parts(usize, usize, bool, bool),

@@ -10,14 +10,14 @@ use text::named::{HexLine, NumberLine, hex_line, number_line};
 use text::reading::{Passed, pass};
 
 // The lines after the first: the lengths of what they hold in hex, and the budget.
-#[derive(Drop)]
+#[derive(Clone, Copy)]
 pub enum Lines {
     Read(usize, usize, u32),
     Bad,
 }
 
 // A job: the length of the left card, that of the right card or the word, and the budget.
-#[derive(Drop)]
+#[derive(Clone, Copy)]
 pub enum Job {
     Compare(usize, usize, u32),
     Match(usize, usize, u32),

@@ -26,14 +26,14 @@ const NUMBERS: usize = 10;
 const NOWHERE: usize = usize::MAX;
 
 // How far the line and the form are read.
-#[derive(Drop)]
+#[derive(Clone, Copy)]
 struct Reached {
     line: usize,
     form: usize,
 }
 
 // A key that was read: where its bytes end in their room, its number, and where the line goes on.
-#[derive(Drop)]
+#[derive(Clone, Copy)]
 struct Value {
     end: usize,
     number: usize,

@@ -12,7 +12,7 @@ pub const CHUNK: usize = 65536;
 
 // How far reading is: the bytes kept of the line, whether the line is whole and whether the input has ended; and which bytes of the chunk
 // that came last are still to be kept.
-#[derive(Drop)]
+#[derive(Clone, Copy)]
 pub struct Reading {
     pub length: usize,
     pub whole: bool,

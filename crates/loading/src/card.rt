@@ -12,7 +12,7 @@ use store::interning::Made;
 use store::making::make;
 
 // Every record was made, with the places then taken; or a full room and the places taken.
-#[derive(Drop)]
+#[derive(Clone, Copy)]
 pub enum Loaded {
     All(usize),
     Full(usize),

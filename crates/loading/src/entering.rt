@@ -13,7 +13,7 @@ use records::record::RECORD;
 use refusals::limits::MOST_PATTERN_RECORDS;
 
 // The root's place and the places taken, or a full room and the places taken.
-#[derive(Drop)]
+#[derive(Clone, Copy)]
 pub enum Entered {
     At(usize, usize),
     Full(usize),

@@ -13,7 +13,7 @@ use loading::entering::{Entered, enter};
 use loading::fresh::fresh;
 
 // The places of the two roots and the places taken, or a full room and the places taken.
-#[derive(Drop)]
+#[derive(Clone, Copy)]
 pub enum Opened {
     At(usize, usize, usize),
     Full(usize),

@@ -7,7 +7,7 @@ use runs::two_bytes::{joined, lay_two};
 // The bytes of a pair record.
 pub const PAIR: usize = 8;
 
-#[derive(Drop)]
+#[derive(Clone, Copy)]
 pub struct Pair {
     pub left: u16,
     pub right: u16,

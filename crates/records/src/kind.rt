@@ -2,7 +2,7 @@
 ghost use Rattle.std.specs.Prelude.{◌≡◌};
 ghost use Rattle.records.specs.Kind.{kind_of, line, columns};
 
-#[derive(Drop)]
+#[derive(Clone, Copy)]
 pub enum Kind {
     Nothing,
     EmptyWord,
@@ -43,7 +43,7 @@ pub fn named(number: u8) -> Kind
 
 // A line of the kind table: whether the table has it; whether the letter is any byte, and else 0; whether left and right each name a
 // child, and else are 0.
-#[derive(Drop)]
+#[derive(Clone, Copy)]
 pub struct Columns {
     pub known: bool,
     pub letter: bool,

@@ -7,7 +7,7 @@ use runs::two_bytes::{joined, lay_two};
 // The bytes of a record.
 pub const RECORD: usize = 8;
 
-#[derive(Drop)]
+#[derive(Clone, Copy)]
 pub struct Record {
     pub kind: u8,
     pub letter: u8,

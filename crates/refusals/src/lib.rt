@@ -6,7 +6,7 @@
 pub mod limits;
 pub mod numbers;
 
-#[derive(Drop)]
+#[derive(Clone, Copy)]
 pub enum Standing {
     Good,
     Refused(u8),

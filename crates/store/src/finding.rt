@@ -8,7 +8,7 @@ ghost use Rattle.store.specs.Good.{GoodStore};
 use records::kind::{columns_of, named};
 use records::record::{Record, number, number_at};
 
-#[derive(Drop)]
+#[derive(Clone, Copy)]
 pub enum Found {
     At(usize),
     Absent,

@@ -14,7 +14,7 @@ use records::kind::named;
 use records::record::{RECORD, Record, read};
 
 // The record's place and the places then taken, or a full room and the places taken.
-#[derive(Drop)]
+#[derive(Clone, Copy)]
 pub enum Made {
     Placed(usize, usize),
     Full(usize),

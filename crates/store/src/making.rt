@@ -11,7 +11,7 @@ use crate::room::{EMPTY_WORD_PLACE, NOTHING_PLACE};
 use records::kind::{Kind, named};
 
 // A rule gives a place, the record stays one, or two sets are merged.
-#[derive(Drop)]
+#[derive(Clone, Copy)]
 pub enum Ruled {
     Gives(usize),
     Stays,

@@ -10,7 +10,7 @@ use crate::room::NOTHING_PLACE;
 use records::record::read;
 
 // A set whose record was read: its first member and the place of the set behind that.
-#[derive(Drop)]
+#[derive(Clone, Copy)]
 pub struct Side {
     pub first: usize,
     pub behind: usize,

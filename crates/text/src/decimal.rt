@@ -2,7 +2,7 @@
 ghost use Rattle.text.specs.Told.{Begins, Grows};
 
 // A number, as far as it is read.
-#[derive(Drop)]
+#[derive(Clone, Copy)]
 pub enum Number {
     Is(u32),
     Not,

@@ -7,7 +7,7 @@ ghost use Rattle.text.specs.Told.{HalfOf, ByteOf};
 pub const NO_HALF: u8 = 16;
 
 // The byte that two digits stand for, if they do.
-#[derive(Drop)]
+#[derive(Clone, Copy)]
 pub enum Byte {
     Is(u8),
     Not,

@@ -5,14 +5,14 @@ ghost use Rattle.text.specs.Told.{ReadsHexLine, ReadsNumberLine};
 use crate::reading::{NumberRead, Passed, pass, read_hex, read_number};
 
 // A line of so many bytes in hex, and where the next line begins.
-#[derive(Drop)]
+#[derive(Clone, Copy)]
 pub enum HexLine {
     Read(usize, usize),
     Bad,
 }
 
 // A line with a number, and where the next line begins.
-#[derive(Drop)]
+#[derive(Clone, Copy)]
 pub enum NumberLine {
     Read(u32, usize),
     Bad,

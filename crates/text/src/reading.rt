@@ -7,14 +7,14 @@ use crate::decimal::{Number, first_digit, with_digit};
 use crate::hex::{Byte, byte_of};
 
 // A piece ends there; or it does not stand in the text.
-#[derive(Drop)]
+#[derive(Clone, Copy)]
 pub enum Passed {
     To(usize),
     Not,
 }
 
 // A number, and where its digits end; or none stands there that is not too large.
-#[derive(Drop)]
+#[derive(Clone, Copy)]
 pub enum NumberRead {
     Read(u32, usize),
     Bad,

@@ -1,0 +1,14 @@
+-- `mark_right` compares the mark with the one that the children's marks give.
+use borrow.Author.Rules.{rules}
+use Rattle.cards.proofs.examine.mark_right.Goals as goal
+
+pub returns : goal.returns
+returns c =
+    rw (
+      c.same_mark.ensures,
+      c.as_mark.ensures,
+      c.has_empty.ensures,
+      c.named.ensures,
+      c.marked_at-right.ensures,
+      c.marked_at-left.ensures,
+    )
