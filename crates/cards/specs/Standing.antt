@@ -1,4 +1,4 @@
--- What the standing of a card means, said without the examiner. Both read the kind table of `records`; the law Laws/Table writes it out by numbers.
+-- What the standing of a card means, said without the examiner. Both read the kind table of `records`; the law proofs/Laws/Table writes it out by numbers.
 -- Document 01: "given exactly when": 1, "card length 0, not a multiple of 8, or too long"; 2, "a record breaks the kind table, its
 -- fourth byte isn't zero, or a child isn't lower"; 3, "a mark is wrong". "each 1 first, then record by record, 2 before 3". "The
 -- mark is 1 when the record's language has the empty word, else 0".

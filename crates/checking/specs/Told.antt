@@ -10,7 +10,7 @@ use Rattle.records.specs.Record.{child}
 use Rattle.cards.specs.Mark.{marked}
 use Rattle.cards.specs.Examine.{proof_card}
 use Rattle.store.specs.Room.{store_in, places_of, laid}
-use Rattle.store.specs.Laws.Wall.{Kept}
+use Rattle.store.proofs.Laws.Wall.{Kept}
 use Rattle.pairs.specs.declared.pair.Pair.{Pair}
 use Rattle.pairs.specs.Pair.{pair_record}
 use Rattle.pairs.specs.Room.{pairs_of, listed_pairs}

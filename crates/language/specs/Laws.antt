@@ -1,11 +1,2 @@
--- What is proved of the definitions: nothing here has to be believed, each file is checked.
-pub mod Tests
-pub mod Words
-pub mod Rising
-pub mod Equality
-pub mod Quotient
+-- Definitions that the laws speak of, and that nobody has to believe: what is proved of them stands in proofs/Laws.
 pub mod Derivative
-pub mod Atoms
-pub mod Tables
-pub mod Order
-pub mod StandIn

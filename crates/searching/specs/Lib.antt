@@ -1,10 +1,9 @@
 -- The fixed search, and its table.
 -- To be believed: ReadOff (the word that leads to a pair), Search (the fixed search), Along (its visits), FirstWord (the first word in exactly one
--- of two languages). Cost (what a list of pairs costs) is named by laws, Told by inner contracts alone. Proved of them: everything below Laws.
+-- of two languages). Cost (what a list of pairs costs) is named by laws, Told by inner contracts alone. Proved of them: everything below proofs/Laws.
 pub mod ReadOff
 pub mod Search
 pub mod Along
 pub mod FirstWord
 pub mod Cost
 pub mod Told
-pub mod Laws

@@ -1,8 +1,7 @@
 -- The store: places and records in the lent work room.
 -- To be believed: Room (what stands in a room), Making (the making rules), Told (what the code answers of these).
--- Not to be believed: Good, which inner contracts alone name, and everything below Laws.
+-- Not to be believed: Good, which inner contracts alone name, and everything below proofs/Laws.
 pub mod Room
 pub mod Making
 pub mod Told
 pub mod Good
-pub mod Laws

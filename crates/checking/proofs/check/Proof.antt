@@ -6,8 +6,8 @@ use mathlib.Core.List.{List}
 use mathlib.Core.Path.{◌≡◌, ap}
 use lib.ListN.{length, take, length-take}
 use borrow.Author.Rules.{rules}
-use Rattle.language.specs.Laws.Words.{bytes_all}
-use Rattle.checking.specs.Laws.Call.{Lent, refused_at_once, can_open, full_in_opening, opened_ready, checked_opened}
+use Rattle.language.proofs.Laws.Words.{bytes_all}
+use Rattle.checking.proofs.Laws.Call.{Lent, refused_at_once, can_open, full_in_opening, opened_ready, checked_opened}
 use Rattle.checking.proofs.check.Statement.{statement}
 use Rattle.checking.proofs.check.Tie as tie
 

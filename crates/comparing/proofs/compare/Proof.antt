@@ -2,9 +2,9 @@
 -- told is true.
 use native.Mathlib.Omega.{arith}
 use borrow.Author.Rules.{rules}
-use Rattle.language.specs.Laws.Words.{bytes_all}
+use Rattle.language.proofs.Laws.Words.{bytes_all}
 use Rattle.pairs.specs.Laws.Tried.{tried_few}
-use Rattle.comparing.specs.Laws.Calling.{Lent, refused_at_once, can_open, full_in_opening, from_first, can_search, compared_with}
+use Rattle.comparing.proofs.Laws.Calling.{Lent, refused_at_once, can_open, full_in_opening, from_first, can_search, compared_with}
 use Rattle.comparing.proofs.compare.Statement.{statement}
 use Rattle.comparing.proofs.compare.Tie as tie
 

@@ -8,7 +8,7 @@ use borrow.Author.Rules.{rules}
 use borrow.Author.Tests.{not_true, not_false}
 use borrow.Fn.Kinds.{In}
 use borrow.Fn.PlainCycle.{Measures, is, falls, and}
-use Rattle.derivative.specs.Laws.Rooms.{first_next, parts_stopped, right_stopped, right_made, parts_derived, product_next, product_full, product_placed, right_unasked, unpaid, parts_lower, visited_leaf, visited_parts}
+use Rattle.derivative.proofs.Laws.Rooms.{first_next, parts_stopped, right_stopped, right_made, parts_derived, product_next, product_full, product_placed, right_unasked, unpaid, parts_lower, visited_leaf, visited_parts}
 use Rattle.store.proofs.making.make.Reads as make-reads
 use Rattle.derivative.proofs.made.Reads as made_reads
 use Rattle.derivative.proofs.price.Reads as price-reads

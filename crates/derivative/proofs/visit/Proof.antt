@@ -3,7 +3,7 @@ use native.Mathlib.Omega.{arith}
 use mathlib.Core.Path.{◌∙◌, ap}
 use borrow.Author.Rules.{rules}
 use Rattle.derivative.specs.declared.Visited.TheVariants.{Leaf}
-use Rattle.derivative.specs.Laws.Rooms.{children_lower, asked_by}
+use Rattle.derivative.proofs.Laws.Rooms.{children_lower, asked_by}
 use Rattle.derivative.proofs.visit.Statement.{statement}
 use Rattle.derivative.proofs.visit.Tie as tie
 

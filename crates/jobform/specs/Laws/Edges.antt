@@ -4,8 +4,8 @@ use Rattle.std.specs.Prelude.{ℕ, ◌/◌, ◌%◌, ◌<◌, ◌≤◌, Bool, t
 use Rattle.std.proofs.Common.{arith, append-nil, sym, ◌∙◌, ap, subst, eqb-true, leb-true}
 use Rattle.std.proofs.lemmas.List.{append_cancel_left}
 use Rattle.language.specs.Word.{Over, none, one, Bytes}
-use Rattle.language.specs.Laws.Words.{back_over, over_join, over_wider}
-use Rattle.language.specs.Laws.Tests.{and_left, and_right}
+use Rattle.language.proofs.Laws.Words.{back_over, over_join, over_wider}
+use Rattle.language.proofs.Laws.Tests.{and_left, and_right}
 use Rattle.text.specs.Ascii.{ascii, line_feed, line}
 use Rattle.text.specs.Digits.{hex_digit, hex, decimal}
 use Rattle.text.specs.Laws.Runs.{line_then}

@@ -5,11 +5,11 @@ use Rattle.answers.specs.declared.Match.{Match}
 use Rattle.answers.specs.declared.Comparison.{Comparison}
 use Rattle.answers.specs.declared.Checked.{Checked}
 use Rattle.matching.specs.Promise.{Fits}
-use Rattle.matching.specs.Laws.OneOutcome.{told_same as same_match, one_room as one-match-room}
+use Rattle.matching.proofs.Laws.OneOutcome.{told_same as same_match, one_room as one-match-room}
 use Rattle.comparing.specs.Promise.{Compares}
-use Rattle.comparing.specs.Laws.OneOutcome.{told_same as same_comparison, one_work_room, one_pair_room, one_word_room}
+use Rattle.comparing.proofs.Laws.OneOutcome.{told_same as same_comparison, one_work_room, one_pair_room, one_word_room}
 use Rattle.checking.specs.Promise.{Checks}
-use Rattle.checking.specs.Laws.OneOutcome.{told_same as same-checked, one_room as one-checked-room}
+use Rattle.checking.proofs.Laws.OneOutcome.{told_same as same-checked, one_room as one-checked-room}
 
 -- `fits`.
 

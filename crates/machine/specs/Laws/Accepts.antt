@@ -7,7 +7,7 @@ use mathlib.Core.List.Memᴰ
 use mathlib.Core.List.{List, [], ◌∷◌}
 use Rattle.std.proofs.Math.Path.{refl}
 use Rattle.language.specs.Word.{Listed}
-use Rattle.language.specs.Laws.Tests.{beq_tells}
+use Rattle.language.proofs.Laws.Tests.{beq_tells}
 use Rattle.machine.specs.Laws.Machine.{Machine, Sense, Lawful}
 use Rattle.machine.specs.Laws.Search.{row_at}
 use Rattle.machine.specs.Laws.Check.{accepted, passes, check_letters, check_pairs, check_list, Reaches, RightPair, GoodTable}

@@ -12,11 +12,11 @@ use Rattle.std.proofs.Math.ListN.{length}
 use Rattle.language.specs.Word.{Word, Over, none, one, IsByte, Listed}
 use Rattle.language.specs.Language.{Language, Equal}
 use Rattle.language.specs.Order.{Before}
-use Rattle.language.specs.Laws.Order.{empty_first}
-use Rattle.language.specs.Laws.Tests.{Tells, beq_tells}
-use Rattle.language.specs.Laws.Words.{over_join}
-use Rattle.language.specs.Laws.Quotient.{Quotients, quotients_to, quotients_from}
-use Rattle.language.specs.Laws.Rising.{Rising, rising_above, rising_below}
+use Rattle.language.proofs.Laws.Order.{empty_first}
+use Rattle.language.proofs.Laws.Tests.{Tells, beq_tells}
+use Rattle.language.proofs.Laws.Words.{over_join}
+use Rattle.language.proofs.Laws.Quotient.{Quotients, quotients_to, quotients_from}
+use Rattle.language.proofs.Laws.Rising.{Rising, rising_above, rising_below}
 use Rattle.machine.specs.Laws.Machine.{Stepped, Machine, Sense, Lawful, StepLaw, was_stepped, was_halted}
 use Rattle.machine.specs.Laws.Search.{Search, same, different, stopped, Going, on, ends, after_going, search_after, after_step, turned, looked, row_at, word_to, word_of, stands_in, marks_agree, look, by_letter, by_letters, take_pairs, search}
 use Rattle.machine.specs.Laws.Words.{word_short}

@@ -10,11 +10,11 @@ use Rattle.std.proofs.Math.Path.{refl}
 use Rattle.language.specs.Word.{Word, Over, none, one, IsByte, Listed}
 use Rattle.language.specs.Language.{Language, Equal}
 use Rattle.language.specs.Order.{Before, shorter}
-use Rattle.language.specs.Laws.Equality.{equal_trans}
-use Rattle.language.specs.Laws.Words.{over_join, front_over, last_over, Fronts, empty, longer_by, fronts}
-use Rattle.language.specs.Laws.Quotient.{Quotient, Quotients}
-use Rattle.language.specs.Laws.Derivative.{quotient_equal}
-use Rattle.language.specs.Laws.Order.{before_irrefl, before_trans, before_more, before_last, before_fronts, NotAfter, not_after_more, not_after_trans, before_not_after}
+use Rattle.language.proofs.Laws.Equality.{equal_trans}
+use Rattle.language.proofs.Laws.Words.{over_join, front_over, last_over, Fronts, empty, longer_by, fronts}
+use Rattle.language.proofs.Laws.Quotient.{Quotient, Quotients}
+use Rattle.language.proofs.Laws.Derivative.{quotient_equal}
+use Rattle.language.proofs.Laws.Order.{before_irrefl, before_trans, before_more, before_last, before_fronts, NotAfter, not_after_more, not_after_trans, before_not_after}
 use Rattle.machine.specs.Laws.Machine.{Machine, Sense, States, Lawful}
 use Rattle.machine.specs.Laws.Search.{row_at, word_to, word_of}
 use Rattle.machine.specs.Laws.Words.{Ordered, row_kept, row_new, word_step, word_kept, ordered_more, word_new}

@@ -9,7 +9,7 @@ use mathlib.Core.List.Memᴰ
 use mathlib.Core.List.{List, [], ◌∷◌, ◌++◌, append_assoc, append-nil}
 use Rattle.std.proofs.Math.Path.{refl}
 use Rattle.std.proofs.Math.Dec.{ltb}
-use Rattle.language.specs.Laws.Tests.{beq_tells}
+use Rattle.language.proofs.Laws.Tests.{beq_tells}
 use Rattle.language.specs.Word.{IsByte, Listed}
 use Rattle.refusals.specs.Numbers.{no_place_for_pair}
 use Rattle.machine.specs.Laws.Machine.{Stepped, Machine, Sense, StepLaw, was_stepped, was_halted, Lawful}

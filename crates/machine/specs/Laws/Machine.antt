@@ -6,8 +6,8 @@
 use Rattle.std.specs.Prelude.{ℕ, Bool, [], ◌≡◌}
 use Rattle.language.specs.Word.{IsByte}
 use Rattle.language.specs.Language.{Language, Equal}
-use Rattle.language.specs.Laws.Tests.{Tells}
-use Rattle.language.specs.Laws.Quotient.{Quotient}
+use Rattle.language.proofs.Laws.Tests.{Tells}
+use Rattle.language.proofs.Laws.Quotient.{Quotient}
 
 -- What a step comes to: a state, with what the machine then has; or a stop by a number.
 pub data Stepped (State Has : Type 0) : Type 0 where

@@ -4,8 +4,8 @@ use Rattle.std.specs.Prelude.{ℕ, ◌<◌, List, [], length}
 use Rattle.std.proofs.Common.{sym, ◌∙◌}
 use Rattle.language.specs.Word.{IsByte, Listed}
 use Rattle.language.specs.Language.{Language, EqualOver}
-use Rattle.language.specs.Laws.Equality.{equal_sym, equal_trans, equal_narrow}
-use Rattle.language.specs.Laws.Tables.{Closed, closed_equal}
+use Rattle.language.proofs.Laws.Equality.{equal_sym, equal_trans, equal_narrow}
+use Rattle.language.proofs.Laws.Tables.{Closed, closed_equal}
 use Rattle.machine.specs.Laws.Machine.{Machine, Sense, Lawful}
 use Rattle.machine.specs.Laws.Search.{row_at, word_to}
 use Rattle.machine.specs.Laws.Check.{Inside, RightPair, GoodTable}

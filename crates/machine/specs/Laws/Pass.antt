@@ -11,8 +11,8 @@ use mathlib.Core.List.{List, [], ◌∷◌}
 use Rattle.std.proofs.Math.Path.{refl, ap}
 use Rattle.answers.specs.Checking.{Point}
 use Rattle.language.specs.Word.{IsByte, Listed}
-use Rattle.language.specs.Laws.Rising.{Rising, none_rise, rises}
-use Rattle.language.specs.Laws.Tests.{beq_tells}
+use Rattle.language.proofs.Laws.Rising.{Rising, none_rise, rises}
+use Rattle.language.proofs.Laws.Tests.{beq_tells}
 use Rattle.machine.specs.Laws.Machine.{Stepped, StepLaw, was_stepped, was_halted, Machine, Sense, Lawful}
 use Rattle.machine.specs.Laws.Search.{row_at, stands_in, StandsAt, marks_agree}
 use Rattle.machine.specs.Laws.Check.{Checking, accepted, rejected, cut_off, Passing, checking_after, passing_after_step, by_listed, by_marks, by_opening}

@@ -7,9 +7,9 @@ use mathlib.Core.List.Memᴰ
 use Rattle.language.specs.Word.{Word, Over, IsByte, Listed}
 use Rattle.language.specs.Language.{Language, EqualOver, Equal}
 use Rattle.language.specs.Order.{Before}
-use Rattle.language.specs.Laws.Equality.{equal_refl}
-use Rattle.language.specs.Laws.Rising.{Rising, none_rise, rises}
-use Rattle.language.specs.Laws.Tests.{and_left, and_right, and_both}
+use Rattle.language.proofs.Laws.Equality.{equal_refl}
+use Rattle.language.proofs.Laws.Rising.{Rising, none_rise, rises}
+use Rattle.language.proofs.Laws.Tests.{and_left, and_right, and_both}
 use Rattle.answers.specs.Comparing.{word_room_short}
 use Rattle.answers.specs.Checking.{at_opening, at_marks, at_letter}
 use Rattle.refusals.specs.Numbers.{no_budget_left, no_place_for_pair}

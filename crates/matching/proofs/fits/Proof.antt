@@ -1,8 +1,8 @@
 -- `fits` comes to its outcome: refused at once it tells that; else it enters the card into a fresh store as the definition loads it and judges
 -- as the definition follows the word, and what is so told is true.
 use borrow.Author.Rules.{rules}
-use Rattle.language.specs.Laws.Words.{bytes_all}
-use Rattle.matching.specs.Laws.Call.{Lent, refused_at_once, enough, can_enter, full_in_loading, entered_well, judged_entered}
+use Rattle.language.proofs.Laws.Words.{bytes_all}
+use Rattle.matching.proofs.Laws.Call.{Lent, refused_at_once, enough, can_enter, full_in_loading, entered_well, judged_entered}
 use Rattle.matching.proofs.fits.Statement.{statement}
 use Rattle.matching.proofs.fits.Tie as tie
 

@@ -1,8 +1,8 @@
 -- `judge` tells the last mark: the place that was followed to stands in the store that the room then holds, so that the mark read
 -- there is the definition's; and what is left of the budget is part of it.
 use borrow.Author.Rules.{rules}
-use Rattle.language.specs.Laws.Words.{bytes_all}
-use Rattle.matching.specs.Laws.Rooms.{Followed, can_be_read, reached_left, said_yes, said_no, stopped_left, said_refused}
+use Rattle.language.proofs.Laws.Words.{bytes_all}
+use Rattle.matching.proofs.Laws.Rooms.{Followed, can_be_read, reached_left, said_yes, said_no, stopped_left, said_refused}
 use Rattle.matching.proofs.judge.Statement.{statement}
 use Rattle.matching.proofs.judge.Tie as tie
 

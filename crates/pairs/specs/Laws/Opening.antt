@@ -5,7 +5,7 @@ use Rattle.std.proofs.Common.{arith, ◌∙◌}
 use Rattle.std.proofs.Math.Path.{ap}
 use Rattle.language.specs.Word.{Bytes}
 use Rattle.language.specs.Language.{language, Equal}
-use Rattle.language.specs.Laws.Equality.{equal_trans}
+use Rattle.language.proofs.Laws.Equality.{equal_trans}
 use Rattle.records.specs.declared.record.Record.{Record}
 use Rattle.refusals.specs.declared.Standing.TheVariants.{Good}
 use Rattle.records.specs.Record.{records}
@@ -13,12 +13,12 @@ use Rattle.cards.specs.Examine.{pattern_card}
 use Rattle.cards.specs.Meaning.{card_pattern}
 use Rattle.store.specs.Room.{fresh_store, wrong_room}
 use Rattle.loading.specs.Loading.{Loading, root}
-use Rattle.store.specs.Laws.Wall.{grows_length, grows_language, Kept, kept_trans, Filled, outgrown_filled}
-use Rattle.store.specs.Laws.Languages.{language_at}
-use Rattle.store.specs.Laws.LegalRoom.{legal_room}
-use Rattle.loading.specs.Laws.FreshRoom.{fresh_is_ready}
-use Rattle.loading.specs.Laws.Loading.{LoadLaw, all_loaded, was_full, load_law}
-use Rattle.loading.specs.Laws.Cards.{good_card, CardLoaded, card_loaded}
+use Rattle.store.proofs.Laws.Wall.{grows_length, grows_language, Kept, kept_trans, Filled, outgrown_filled}
+use Rattle.store.proofs.Laws.Languages.{language_at}
+use Rattle.store.proofs.Laws.LegalRoom.{legal_room}
+use Rattle.loading.proofs.Laws.FreshRoom.{fresh_is_ready}
+use Rattle.loading.proofs.Laws.Loading.{LoadLaw, all_loaded, was_full, load_law}
+use Rattle.loading.proofs.Laws.Cards.{good_card, CardLoaded, card_loaded}
 use Rattle.pairs.specs.Opening.{Opening, opened, unopened, right_opened, left_opened, open_both}
 
 -- Both cards are loaded: x and y are their roots' places.

@@ -17,17 +17,17 @@ use Rattle.refusals.specs.Limits.{least_room}
 use Rattle.loading.specs.Loading.{Loading, loaded, no_room, load, root}
 use Rattle.loading.specs.Told.{Enters}
 use Rattle.store.specs.Good.{GoodStore}
-use Rattle.store.specs.Laws.Room.{laid_laid, store_of_laid}
-use Rattle.store.specs.Laws.Wall.{grows_length, Kept}
-use Rattle.store.specs.Laws.GoodRoom.{places_after, store_after}
-use Rattle.store.specs.Laws.LegalRoom.{LegalRoom, legal_room}
-use Rattle.loading.specs.Laws.Loading.{LoadLaw, all_loaded, was_full, load_law}
-use Rattle.loading.specs.Laws.Cards.{good_card}
+use Rattle.store.proofs.Laws.Room.{laid_laid, store_of_laid}
+use Rattle.store.proofs.Laws.Wall.{grows_length, Kept}
+use Rattle.store.proofs.Laws.GoodRoom.{places_after, store_after}
+use Rattle.store.proofs.Laws.LegalRoom.{LegalRoom, legal_room}
+use Rattle.loading.proofs.Laws.Loading.{LoadLaw, all_loaded, was_full, load_law}
+use Rattle.loading.proofs.Laws.Cards.{good_card}
 use Rattle.pairs.specs.declared.opening.Opened.{Opened}
 use Rattle.pairs.specs.declared.opening.Opened.TheVariants.{At as OpenedAt, Full as NotOpened}
 use Rattle.pairs.specs.Opening.{Opening, right_opened, left_opened, open_both, after_opening}
 use Rattle.pairs.specs.Told.{CanOpen, Opens}
-use Rattle.loading.specs.Laws.FreshRoom.{length_fresh, fresh_in, fresh_is_ready, over_fresh, grown_good}
+use Rattle.loading.proofs.Laws.FreshRoom.{length_fresh, fresh_in, fresh_is_ready, over_fresh, grown_good}
 
 -- What the code told of entering a card is one thing.
 not_both : {answer : Entered} {place taken stood : ℕ} → answer ≡ At place taken → answer ≡ Full stood → ⊥

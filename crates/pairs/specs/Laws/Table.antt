@@ -1,7 +1,7 @@
 -- Looking a pair up: a pair stands in a table exactly when one of the table's pairs has its two places.
 use Rattle.std.specs.Prelude.{ℕ, ◌<◌, Bool, true, ◌&&◌, ◌||◌, List, [], ◌∷◌, ◌≡◌, refl, eqb, length}
 use Rattle.std.proofs.Common.{sym, ◌∙◌, ap, eqb-true, eq-eqb}
-use Rattle.language.specs.Laws.Tests.{and_left, and_right, and_both}
+use Rattle.language.proofs.Laws.Tests.{and_left, and_right, and_both}
 use Rattle.machine.specs.Laws.Finding.{found_in, found_at, found_listed}
 use Rattle.pairs.specs.declared.pair.Pair.{Pair}
 use Rattle.pairs.specs.Pair.{no_pair, pair_at, stands_in, StandsAt}

@@ -5,13 +5,13 @@ use Rattle.std.proofs.Common.{add-one, arith, append-nil, ◌∙◌, ap, length-
 use Rattle.std.proofs.Math.Bool.{or-true}
 use Rattle.language.specs.Word.{Word, Bytes, IsByte, Listed}
 use Rattle.language.specs.Language.{language}
-use Rattle.language.specs.Laws.Atoms.{atoms}
-use Rattle.language.specs.Laws.Rising.{Rising, none_rise, rising_more}
-use Rattle.language.specs.Laws.StandIn.{Represented, represented}
+use Rattle.language.proofs.Laws.Atoms.{atoms}
+use Rattle.language.proofs.Laws.Rising.{Rising, none_rise, rising_more}
+use Rattle.language.proofs.Laws.StandIn.{Represented, represented}
 use Rattle.records.specs.Record.{records}
 use Rattle.cards.specs.Meaning.{card_pattern}
 use Rattle.cards.specs.Letters.{mentions, those_below}
-use Rattle.cards.specs.Laws.Letters.{those_below_sound, those_below_complete, atoms_mentioned, mentioned_byte}
+use Rattle.cards.proofs.Laws.Letters.{those_below_sound, those_below_complete, atoms_mentioned, mentioned_byte}
 use Rattle.pairs.specs.Tried.{mentioned, tried}
 use Rattle.refusals.specs.Limits.{most_letters}
 

@@ -10,7 +10,7 @@ use Rattle.std.specs.Prelude.{◌≡◌, get_or, drop}
 use Rattle.std.proofs.Math.Path.{refl, sym, ap, ap₂}
 use Rattle.std.proofs.Math.ListN.{length, take, length-append, length-drop}
 use Rattle.language.specs.Word.{none, Bytes}
-use Rattle.language.specs.Laws.Words.{over_join}
+use Rattle.language.proofs.Laws.Words.{over_join}
 use Rattle.runs.specs.Runs.{item_at, first_items, run_of_items, space_in, laid_items, ItemsStand}
 use Rattle.runs.specs.Laws.Bytes.{bytes_drop, behind_covered, put_in_part}
 

@@ -6,7 +6,7 @@ use Prim.Native.String.{String}
 use Rattle.std.proofs.Common.{arith, sym, ap, ap₂, subst, lit≤, ltb-true}
 use Rattle.language.specs.Word.{none as no_letter, one, Bytes}
 use Rattle.language.specs.Language.{Pattern, nothing as 𝟘, empty_word as 𝟙}
-use Rattle.language.specs.Laws.Tests.{and_left, and_right}
+use Rattle.language.proofs.Laws.Tests.{and_left, and_right}
 use Rattle.refusals.specs.Limits.{most_job}
 use Rattle.cards.specs.Meaning.{card_pattern}
 use Rattle.store.specs.Making.{make}

@@ -2,7 +2,7 @@
 use Rattle.std.specs.Prelude.{ℕ, zero, suc, ◌+◌, ◌-◌, ◌*◌, ◌^◌, ◌/◌, ◌%◌, ◌<◌, ◌≤◌, Bool, true, false, List, [], ◌∷◌, ◌++◌, ◌≡◌, refl, ltb, length}
 use Rattle.std.proofs.Common.{le_refl, le_trans, arith, sym, ◌∙◌, ap, ap₂, length-append, lt-ltb, le-ltb, ltb-true, ltb-false}
 use Rattle.language.specs.Word.{Over, none, one}
-use Rattle.language.specs.Laws.Words.{over_join}
+use Rattle.language.proofs.Laws.Words.{over_join}
 use Rattle.text.specs.Ascii.{line_feed}
 use Rattle.text.specs.Digits.{decimal_digit, decimal_to, decimal}
 use Rattle.text.specs.Told.{IsDigit, StopsAt}

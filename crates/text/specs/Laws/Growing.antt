@@ -2,7 +2,7 @@
 use Rattle.std.specs.Prelude.{ℕ, ◌+◌, ◌-◌, ◌*◌, ◌<◌, ◌≤◌, List, [], ◌∷◌, ◌++◌, ◌≡◌, refl, length}
 use Rattle.std.proofs.Common.{arith, append_assoc, sym, ◌∙◌, ap}
 use Rattle.language.specs.Word.{Over, none, one}
-use Rattle.language.specs.Laws.Words.{over_join}
+use Rattle.language.proofs.Laws.Words.{over_join}
 use Rattle.text.specs.declared.decimal.Number.{Number}
 use Rattle.text.specs.declared.decimal.Number.TheVariants.{Is, Not}
 use Rattle.text.specs.Digits.{decimal_digit, decimal}

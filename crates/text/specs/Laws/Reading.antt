@@ -6,7 +6,7 @@ use mathlib.Core.List.{List, [], ◌∷◌, ◌++◌, append_assoc}
 use Rattle.std.proofs.Math.Path.{sym, ap, ap₂}
 use Rattle.std.proofs.Math.ListN.{take, drop, length-set, get_or-append}
 use Rattle.language.specs.Word.{none, one, Bytes}
-use Rattle.language.specs.Laws.Words.{over_join}
+use Rattle.language.proofs.Laws.Words.{over_join}
 use Rattle.text.specs.declared.hex.Byte.{Byte}
 use Rattle.text.specs.declared.hex.Byte.TheVariants.{Is as IsByte, Not as NoByte}
 use Rattle.text.specs.declared.decimal.Number.{Number}

@@ -13,7 +13,7 @@ use Rattle.records.specs.Record.{records, record_at}
 use Rattle.cards.specs.Examine.{record_standing, examined}
 use Rattle.refusals.specs.Order.{◌then◌}
 use Rattle.records.specs.Laws.Record.{record_at_place}
-use Rattle.cards.specs.Laws.Examine.{standing_from, standing_1, standing_start, standing_step, standing_end}
+use Rattle.cards.proofs.Laws.Examine.{standing_from, standing_1, standing_start, standing_step, standing_end}
 use Rattle.cards.proofs.examine.examine.Given as goal
 
 abbrev pub invariant-loop-at : goal.invariant-loop-at

@@ -2,7 +2,7 @@
 use native.Mathlib.Omega.{arith}
 use borrow.Author.Rules.{rules}
 use Rattle.checking.specs.Told.{mapped_list}
-use Rattle.checking.specs.Laws.Rooms.{reached_fit, both_spent, letter_passes, letter_misses, one_spent, letter_stops}
+use Rattle.checking.proofs.Laws.Rooms.{reached_fit, both_spent, letter_passes, letter_misses, one_spent, letter_stops}
 use Rattle.checking.proofs.checking.check_letter.Statement.{statement}
 use Rattle.checking.proofs.checking.check_letter.Tie as tie
 

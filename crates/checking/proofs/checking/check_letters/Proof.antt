@@ -6,7 +6,7 @@ use mathlib.Core.Path.{◌∙◌}
 use lib.ListN.{length}
 use borrow.Author.Rules.{rules}
 use Rattle.checking.specs.Told.{mapped_list}
-use Rattle.checking.specs.Laws.Rooms.{room_as_long, good_now, both_inside, ByLetters, letters_first, letters_done, letter_passed, letter_ended}
+use Rattle.checking.proofs.Laws.Rooms.{room_as_long, good_now, both_inside, ByLetters, letters_first, letters_done, letter_passed, letter_ended}
 use Rattle.checking.proofs.checking.check_letters.Statement.{statement}
 use Rattle.checking.proofs.checking.check_letters.Tie as tie
 

@@ -2,7 +2,7 @@
 use borrow.Author.Tests.{not_true, not_false}
 use borrow.Author.Rules.{rules}
 use Rattle.checking.specs.Told.{mapped_list}
-use Rattle.checking.specs.Laws.Rooms.{told_missing, on_listed}
+use Rattle.checking.proofs.Laws.Rooms.{told_missing, on_listed}
 use Rattle.checking.proofs.checking.check_list.Statement.{statement}
 use Rattle.checking.proofs.checking.check_list.Tie as tie
 

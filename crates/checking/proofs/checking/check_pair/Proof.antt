@@ -3,8 +3,8 @@ use mathlib.Core.Bool.{beq}
 use borrow.Author.Tests.{not_true, not_false}
 use borrow.Author.Rules.{rules}
 use Rattle.checking.specs.Told.{mapped_list}
-use Rattle.checking.specs.Laws.Listing.{pair_inside}
-use Rattle.checking.specs.Laws.Rooms.{told_differing, on_agreeing}
+use Rattle.checking.proofs.Laws.Listing.{pair_inside}
+use Rattle.checking.proofs.Laws.Rooms.{told_differing, on_agreeing}
 use Rattle.checking.proofs.checking.check_pair.Statement.{statement}
 use Rattle.checking.proofs.checking.check_pair.Tie as tie
 

@@ -5,8 +5,8 @@ use native.Mathlib.Omega.{arith}
 use mathlib.Core.Path.{◌∙◌}
 use borrow.Author.Rules.{rules}
 use Rattle.checking.specs.Told.{mapped_list}
-use Rattle.checking.specs.Laws.Listing.{length_listed}
-use Rattle.checking.specs.Laws.Rooms.{room_as_long, good_now, mapped_now, ByPairs, pairs_first, pairs_done, pair_passed, pair_ended}
+use Rattle.checking.proofs.Laws.Listing.{length_listed}
+use Rattle.checking.proofs.Laws.Rooms.{room_as_long, good_now, mapped_now, ByPairs, pairs_first, pairs_done, pair_passed, pair_ended}
 use Rattle.checking.proofs.checking.check_pairs.Statement.{statement}
 use Rattle.checking.proofs.checking.check_pairs.Tie as tie
 

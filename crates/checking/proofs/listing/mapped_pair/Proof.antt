@@ -9,7 +9,7 @@ use Rattle.pairs.specs.declared.pair.Pair.{Pair}
 use Rattle.pairs.specs.Pair.{pair_record, pair_at}
 use Rattle.pairs.specs.Room.{pairs_of}
 use Rattle.checking.specs.Told.{mapped_list, Named}
-use Rattle.checking.specs.Laws.Listing.{mapped_pair, listed_pair_at}
+use Rattle.checking.proofs.Laws.Listing.{mapped_pair, listed_pair_at}
 use Rattle.checking.proofs.listing.mapped_pair.Statement.{statement}
 use Rattle.checking.proofs.listing.mapped_pair.Tie as tie
 

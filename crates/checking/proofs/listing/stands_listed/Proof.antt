@@ -12,7 +12,7 @@ use Rattle.pairs.specs.declared.pair.Pair.{Pair}
 use Rattle.pairs.specs.Pair.{places_of_pair, pair_record, pair_at, stands_in}
 use Rattle.pairs.specs.Room.{pairs_of}
 use Rattle.checking.specs.Told.{mapped_list}
-use Rattle.checking.specs.Laws.Listing.{length_listed, listed_pair_at, number_found, number_missing}
+use Rattle.checking.proofs.Laws.Listing.{length_listed, listed_pair_at, number_found, number_missing}
 use Rattle.checking.proofs.listing.stands_listed.Statement.{statement}
 use Rattle.checking.proofs.listing.stands_listed.Tie as tie
 

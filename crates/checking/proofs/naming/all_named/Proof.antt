@@ -8,13 +8,13 @@ use mathlib.Core.Path.{◌≡◌, refl, sym, ◌∙◌, ap}
 use lib.Dec.{ltb}
 use borrow.Author.Tests.{ltb-true, lt-ltb, not_true, not_false}
 use borrow.Author.Count.{below_more}
-use Rattle.language.specs.Laws.Tests.{and_left, and_right, and_both}
+use Rattle.language.proofs.Laws.Tests.{and_left, and_right, and_both}
 use Rattle.pairs.specs.declared.pair.Pair.{Pair}
 use Rattle.pairs.specs.Pair.{pair_record, pair_at}
 use Rattle.pairs.specs.Room.{pairs_of, listed_pairs}
 use Rattle.pairs.specs.Laws.Pair.{length_first_pairs, first_pair_at}
 use Rattle.checking.specs.Outcome.{all_named}
-use Rattle.checking.specs.Laws.Refusals.{named_below, below_named}
+use Rattle.checking.proofs.Laws.Refusals.{named_below, below_named}
 use Rattle.checking.proofs.naming.all_named.Statement.{statement}
 use Rattle.checking.proofs.naming.all_named.Tie as tie
 

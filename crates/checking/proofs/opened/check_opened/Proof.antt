@@ -2,8 +2,8 @@
 -- does, and what the code answers of the list is told of the whole.
 use mathlib.Core.Path.{refl}
 use borrow.Author.Rules.{rules}
-use Rattle.language.specs.Laws.Words.{bytes_all}
-use Rattle.checking.specs.Laws.ProofCard.{loadable_proof, proof_full, list_ready, list_told}
+use Rattle.language.proofs.Laws.Words.{bytes_all}
+use Rattle.checking.proofs.Laws.ProofCard.{loadable_proof, proof_full, list_ready, list_told}
 use Rattle.checking.proofs.opened.check_opened.Statement.{statement}
 use Rattle.checking.proofs.opened.check_opened.Tie as tie
 

@@ -1,7 +1,7 @@
 -- `tell_word` tells the empty word where no pair is placed; else it counts the word and its last letter, and writes it where it fits.
 use native.Mathlib.Omega.{arith}
 use borrow.Author.Rules.{rules}
-use Rattle.comparing.specs.Laws.ReadOff.{few_letters, told_none, told_short, told_written}
+use Rattle.comparing.proofs.Laws.ReadOff.{few_letters, told_none, told_short, told_written}
 use Rattle.comparing.proofs.reading_off.tell_word.Statement.{statement}
 use Rattle.comparing.proofs.reading_off.tell_word.Tie as tie
 

@@ -2,7 +2,7 @@
 -- as long as the word. The measure is the pair's number, since a pair comes from one with a lower number.
 use native.Mathlib.Omega.{arith}
 use borrow.Author.Rules.{rules}
-use Rattle.comparing.specs.Laws.ReadOff.{can_read, comes_from, few_letters, Counting, none_counted, one_counted, all_counted}
+use Rattle.comparing.proofs.Laws.ReadOff.{can_read, comes_from, few_letters, Counting, none_counted, one_counted, all_counted}
 use Rattle.comparing.proofs.reading_off.word_length.Statement.{statement}
 use Rattle.comparing.proofs.reading_off.word_length.Tie as tie
 

@@ -5,7 +5,7 @@ use native.Mathlib.Omega.{arith}
 use mathlib.Core.Path.{◌∙◌}
 use lib.ListN.{length-set}
 use borrow.Author.Rules.{rules}
-use Rattle.comparing.specs.Laws.ReadOff.{can_read, comes_from, Writing, none_written, one_left, one_written, whole_written}
+use Rattle.comparing.proofs.Laws.ReadOff.{can_read, comes_from, Writing, none_written, one_left, one_written, whole_written}
 use Rattle.comparing.proofs.reading_off.write_word.Statement.{statement}
 use Rattle.comparing.proofs.reading_off.write_word.Tie as tie
 

@@ -4,7 +4,7 @@ use Prim.Native.Nat.{◌-◌}
 use native.Mathlib.Omega.{arith}
 use mathlib.Core.Path.{◌∙◌}
 use borrow.Author.Rules.{rules}
-use Rattle.loading.specs.Laws.LoadingRoom.{Underway, at_first, room_as_long, at_last, left_mapped, right_mapped, can_be_made, place_fits, when_full, when_placed}
+use Rattle.loading.proofs.Laws.LoadingRoom.{Underway, at_first, room_as_long, at_last, left_mapped, right_mapped, can_be_made, place_fits, when_full, when_placed}
 use Rattle.loading.proofs.card.load.Statement.{statement}
 use Rattle.loading.proofs.card.load.Tie as tie
 

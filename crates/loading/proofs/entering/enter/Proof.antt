@@ -3,8 +3,8 @@
 use native.Mathlib.Omega.{arith}
 use mathlib.Core.Path.{refl}
 use borrow.Author.Rules.{rules}
-use Rattle.language.specs.Laws.Words.{bytes_all}
-use Rattle.loading.specs.Laws.Entering.{loadable, some_last, last_mapped, root_fits, entered_at, entered_full}
+use Rattle.language.proofs.Laws.Words.{bytes_all}
+use Rattle.loading.proofs.Laws.Entering.{loadable, some_last, last_mapped, root_fits, entered_at, entered_full}
 use Rattle.loading.proofs.entering.enter.Statement.{statement}
 use Rattle.loading.proofs.entering.enter.Tie as tie
 

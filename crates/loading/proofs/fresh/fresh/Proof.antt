@@ -7,7 +7,7 @@ use lib.Seq.{drop-drop}
 use borrow.Author.Rules.{rules}
 use Rattle.records.specs.Record.{bytes_of, run_of}
 use Rattle.store.specs.Room.{laid, nothing_record, empty_word_record, fresh_store}
-use Rattle.store.specs.Laws.Room.{put_in_part}
+use Rattle.store.proofs.Laws.Room.{put_in_part}
 use Rattle.loading.proofs.fresh.fresh.Statement.{statement}
 use Rattle.loading.proofs.fresh.fresh.Tie as tie
 

@@ -5,7 +5,7 @@ use native.Mathlib.Omega.{arith}
 use mathlib.Core.Path.{◌∙◌}
 use lib.ListN.{length}
 use borrow.Author.Rules.{rules}
-use Rattle.matching.specs.Laws.Rooms.{Underway, at_first, room_as_long, good_now, here_taken, at_last, when_stopped, when_derived}
+use Rattle.matching.proofs.Laws.Rooms.{Underway, at_first, room_as_long, good_now, here_taken, at_last, when_stopped, when_derived}
 use Rattle.matching.proofs.following.follow.Statement.{statement}
 use Rattle.matching.proofs.following.follow.Tie as tie
 

@@ -1,6 +1,6 @@
 -- `step` derives at the depth that is enough for its place, as the definition of a derivative does.
 use borrow.Author.Rules.{rules}
-use Rattle.derivative.specs.Laws.Both.{at_depth}
+use Rattle.derivative.proofs.Laws.Both.{at_depth}
 use Rattle.matching.proofs.following.step.Statement.{statement}
 use Rattle.matching.proofs.following.step.Tie as tie
 

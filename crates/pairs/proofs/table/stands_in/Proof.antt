@@ -8,7 +8,7 @@ use mathlib.Core.Path.{◌≡◌, refl, sym, ◌∙◌, ap}
 use borrow.Author.Count.{below_more}
 use borrow.Author.Rules.{rules}
 use Rattle.language.specs.Word.{Bytes}
-use Rattle.language.specs.Laws.Words.{bytes_all}
+use Rattle.language.proofs.Laws.Words.{bytes_all}
 use Rattle.runs.specs.Laws.Bytes.{bytes_drop}
 use Rattle.pairs.specs.declared.pair.Pair.{Pair}
 use Rattle.pairs.specs.Pair.{places_of_pair, pair_record, stands_in, StandsAt}

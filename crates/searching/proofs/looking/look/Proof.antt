@@ -2,7 +2,7 @@
 -- looked up in the table that stands in the pair room, and placed behind it.
 use borrow.Author.Rules.{rules}
 use native.Mathlib.Omega.{arith}
-use Rattle.searching.specs.Laws.Looking.{looking, look_differs, look_stands, look_placed, look_full}
+use Rattle.searching.proofs.Laws.Looking.{looking, look_differs, look_stands, look_placed, look_full}
 use Rattle.searching.proofs.looking.look.Statement.{statement}
 use Rattle.searching.proofs.looking.look.Tie as tie
 

@@ -5,8 +5,8 @@ use native.Mathlib.Omega.{arith}
 use mathlib.Core.Path.{◌∙◌}
 use lib.ListN.{length}
 use borrow.Author.Rules.{rules}
-use Rattle.searching.specs.Laws.Rooms.{work_as_long, pairs_as_long}
-use Rattle.searching.specs.Laws.Letters.{LettersUnderway, letters_first, letters_last, letter_call, letter_on, letter_ended}
+use Rattle.searching.proofs.Laws.Rooms.{work_as_long, pairs_as_long}
+use Rattle.searching.proofs.Laws.Letters.{LettersUnderway, letters_first, letters_last, letter_call, letter_on, letter_ended}
 use Rattle.searching.proofs.taking.by_letters.Statement.{statement}
 use Rattle.searching.proofs.taking.by_letters.Tie as tie
 

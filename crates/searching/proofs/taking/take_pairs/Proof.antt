@@ -4,10 +4,10 @@ use Prim.Native.Nat.{◌-◌}
 use native.Mathlib.Omega.{arith}
 use mathlib.Core.Path.{◌∙◌}
 use borrow.Author.Rules.{rules}
-use Rattle.language.specs.Laws.Words.{bytes_all}
+use Rattle.language.proofs.Laws.Words.{bytes_all}
 use Rattle.pairs.specs.Room.{pairs_of}
-use Rattle.searching.specs.Laws.Rooms.{work_as_long, pairs_as_long}
-use Rattle.searching.specs.Laws.Pairs.{PairsUnderway, pairs_first, pairs_left, pairs_last, letters_call, pair_taken, pair_ended}
+use Rattle.searching.proofs.Laws.Rooms.{work_as_long, pairs_as_long}
+use Rattle.searching.proofs.Laws.Pairs.{PairsUnderway, pairs_first, pairs_left, pairs_last, letters_call, pair_taken, pair_ended}
 use Rattle.searching.proofs.taking.take_pairs.Statement.{statement}
 use Rattle.searching.proofs.taking.take_pairs.Tie as tie
 

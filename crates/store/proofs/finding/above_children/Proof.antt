@@ -7,7 +7,7 @@ use Rattle.records.specs.declared.kind.Columns.{Columns}
 use Rattle.records.specs.declared.record.Record.{Record}
 use Rattle.records.specs.Kind.{kind_of, columns}
 use Rattle.cards.specs.Standing.{ChildField, LineOf, Obeys}
-use Rattle.cards.specs.Laws.Line.{field_higher}
+use Rattle.cards.proofs.Laws.Line.{field_higher}
 use Rattle.store.proofs.finding.above_children.Statement.{statement}
 use Rattle.store.proofs.finding.above_children.Tie as tie
 

@@ -20,7 +20,7 @@ use Rattle.records.specs.Laws.Record.{Fitting, number_one, fitting_of, bytes_dro
 use Rattle.store.specs.declared.finding.Found.TheVariants.{At, Absent}
 use Rattle.store.specs.Room.{store_in}
 use Rattle.store.specs.Making.{identical, find_from, find}
-use Rattle.store.specs.Laws.Room.{child_in_room}
+use Rattle.store.proofs.Laws.Room.{child_in_room}
 use Rattle.store.proofs.finding.find.Statement.{statement}
 use Rattle.store.proofs.finding.find.Tie as tie
 

@@ -16,7 +16,7 @@ use Rattle.store.specs.Room.{store_in, places_of, laid}
 use Rattle.store.specs.Making.{find, use_or_write, intern, after}
 use Rattle.store.specs.Told.{told_making}
 use Rattle.store.specs.Good.{GoodStore}
-use Rattle.store.specs.Laws.Room.{laid_same}
+use Rattle.store.proofs.Laws.Room.{laid_same}
 use Rattle.store.proofs.interning.intern.Statement.{statement}
 use Rattle.store.proofs.interning.intern.Tie as tie
 

@@ -16,8 +16,8 @@ use Rattle.store.specs.Room.{store_in, places_of, laid}
 use Rattle.store.specs.Making.{rule, new_record, by_rule, intern, set_of_both, make, after}
 use Rattle.store.specs.Told.{told_making}
 use Rattle.store.specs.Good.{SetKind, GoodStore}
-use Rattle.store.specs.Laws.Room.{laid_same}
-use Rattle.store.specs.Laws.Rules.{merged_kind}
+use Rattle.store.proofs.Laws.Room.{laid_same}
+use Rattle.store.proofs.Laws.Rules.{merged_kind}
 use Rattle.store.proofs.making.make.Statement.{statement}
 use Rattle.store.proofs.making.make.Tie as tie
 

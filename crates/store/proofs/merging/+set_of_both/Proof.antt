@@ -5,7 +5,7 @@ use native.Mathlib.Omega.{arith}
 use borrow.Author.Rules.{rules}
 use borrow.Fn.Kinds.{In}
 use borrow.Fn.PlainCycle.{Measures, is, falls, and}
-use Rattle.store.specs.Laws.MergingRoom.{tells_right, tells_left, falls as merge-falls, insides, can_put, put, filled}
+use Rattle.store.proofs.Laws.MergingRoom.{tells_right, tells_left, falls as merge-falls, insides, can_put, put, filled}
 use Rattle.store.proofs.merging.set_of_both.Reads as set_of_both
 use Rattle.store.proofs.merging.set_of_both.Kinds as set-of-both-kinds
 use Rattle.store.proofs.merging.+set_of_both.Lts-set_of_both as set-of-both-lts

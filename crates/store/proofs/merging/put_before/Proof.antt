@@ -11,8 +11,8 @@ use Rattle.store.specs.Room.{store_in, places_of, laid}
 use Rattle.store.specs.Making.{Making, placed, new_record, intern, put_before, after}
 use Rattle.store.specs.Told.{told_making}
 use Rattle.store.specs.Good.{GoodStore}
-use Rattle.store.specs.Laws.Choosing.{put_before_some}
-use Rattle.store.specs.Laws.MergingRoom.{tells_placed}
+use Rattle.store.proofs.Laws.Choosing.{put_before_some}
+use Rattle.store.proofs.Laws.MergingRoom.{tells_placed}
 use Rattle.store.proofs.merging.put_before.Statement.{statement}
 use Rattle.store.proofs.merging.put_before.Tie as tie
 

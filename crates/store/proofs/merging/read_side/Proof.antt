@@ -11,7 +11,7 @@ use Rattle.store.specs.declared.merging.Side.{Side}
 use Rattle.store.specs.Room.{store_in}
 use Rattle.store.specs.Making.{is_kind}
 use Rattle.store.specs.Told.{side}
-use Rattle.store.specs.Laws.Room.{child_in_room}
+use Rattle.store.proofs.Laws.Room.{child_in_room}
 use Rattle.store.proofs.merging.read_side.Statement.{statement}
 use Rattle.store.proofs.merging.read_side.Tie as tie
 
