@@ -17,8 +17,7 @@ use Rattle.store.specs.Making.{find, use_or_write, intern, after}
 use Rattle.store.specs.Told.{told_making}
 use Rattle.store.specs.Good.{GoodStore}
 use Rattle.store.proofs.Laws.Room.{laid_same}
-use Rattle.store.proofs.interning.intern.Statement.{statement}
-use Rattle.store.proofs.interning.intern.Tie as tie
+use Rattle.store.proofs.interning.intern.Goals as goal
 
 module _ (room : List ℕ) (places : ℕ) (r : Record) (good : GoodStore room places) {found : Found} (is : found ≡ find (store_in room places) r) where
   by-found : {f : Found} → found ≡ f → intern (places_of room) (store_in room places) r ≡ use_or_write (places_of room) (store_in room places) r f
@@ -47,66 +46,29 @@ module _ (room : List ℕ) (places : ℕ) (r : Record) (good : GoodStore room pl
       rw (by-found e, le-ltb (length (store_in room places)) (places_of room) taken)
       (ap Full (sym (length_first places room)), sym (laid_same places room good.fits good.bytes))
 
-find-requires : tie.Need-find-requires
-find-requires c κs = search rules
+pub returns-in-At : goal.returns-in-At
+returns-in-At c =
+    let a = c.args in
+    let told = told-found a.room.now a.places a.r c.requires
+    c.find-found.ensures
+    c.in-At.is in
+    record { value = told.0; room_after = told.1 }
 
-enum-known-found : tie.Need-enum-known-found
-enum-known-found c = search rules
+pub returns-then-places-room : goal.returns-then-places-room
+returns-then-places-room c =
+    let a = c.args in
+    let told = told_written a.room.now a.places a.r c.requires
+    c.find-found.ensures
+    c.in_default.is
+    c.if-places-room.true
+    c.write.ensures in
+    record { value = told.0; room_after = told.1 }
 
-same_length : tie.Need-same-length
-same_length c = search rules
-
-returns : tie.Need-returns
+pub returns : goal.returns
 returns c =
-    let a = c.before.before.before.before.before.before.args in
-    told-found a.room.now a.places a.r c.before.before.before.before.before.before.requires
-    c.before.before.before.find.ensures
-    c.before.found.given.1
-
-enum_told : tie.Need-enum-told
-enum_told c = search rules
-
-write-requires : tie.Need-write-requires
-write-requires c κs = search rules
-
-add-t14 : tie.Need-overflow-add-t14
-add-t14 c = search rules
-
-same-length-2 : tie.Need-same-length-2
-same-length-2 c = search rules
-
-returns-2 : tie.Need-returns-2
-returns-2 c =
-    let a = c.before.before.before.before.before.before.before.before.before.before.args in
-    told_written a.room.now a.places a.r c.before.before.before.before.before.before.before.before.before.before.requires
-    c.before.before.before.before.before.before.before.find.ensures
-    c.before.before.before.before.before.enum_told.given.1
-    c.before.before.before.before.if1.true
-    c.before.before.write.ensures
-
-same-length-3 : tie.Need-same-length-3
-same-length-3 c = search rules
-
-returns-3 : tie.Need-returns-3
-returns-3 c =
-    let a = c.before.before.before.before.before.before.args in
-    told-full a.room.now a.places a.r c.before.before.before.before.before.before.requires
-    c.before.before.before.find.ensures
-    c.before.enum_told.given.1
-    (omega arith)
-
-pub intern-spec : {M : Type 1} → statement M
-intern-spec =
-    tie.close
-    (tie.spec
-    find-requires
-    enum-known-found
-    same_length
-    returns
-    enum_told
-    write-requires
-    add-t14
-    same-length-2
-    returns-2
-    same-length-3
-    returns-3)
+    let a = c.args in
+    let told = told-full a.room.now a.places a.r c.requires
+    c.find-found.ensures
+    c.in_default.is
+    (omega arith) in
+    record { value = told.0; room_after = told.1 }

@@ -21,11 +21,9 @@ use Rattle.store.specs.declared.finding.Found.TheVariants.{At, Absent}
 use Rattle.store.specs.Room.{store_in}
 use Rattle.store.specs.Making.{identical, find_from, find}
 use Rattle.store.proofs.Laws.Room.{child_in_room}
-use Rattle.store.proofs.finding.find.Statement.{statement}
-use Rattle.store.proofs.finding.find.Tie as tie
+use Rattle.store.proofs.finding.find.Goals as goal
 
 -- Identical records have one number, and records that fit and have one number are identical.
-
 all-six : (a b c d e f : Bool) → a && b && c && d && e && f ≡ true
     → (a ≡ true) × (b ≡ true) × (c ≡ true) × (d ≡ true) × (e ≡ true) × (f ≡ true)
 all-six false b c d e f t = absurd (false≢true t)
@@ -113,72 +111,35 @@ module _ (room : List ℕ) (places : ℕ) (r : Record) where
   told-absent : ((k : ℕ) → k < places → number_of (record_at room k) ≡ number_of r → ⊥) → Absent ≡ find (store_in room places) r
   told-absent n = sym (passed places (omega arith) n ∙ at_last)
 
-abbrev invariant-loop : tie.invariant-loop
-invariant-loop room places wanted at₀ at = (k : ℕ) → k < at → k < places → number_of (record_at room k) ≡ wanted → ⊥
-
-abbrev decreases-loop : tie.decreases-loop
-decreases-loop room places wanted at₀ at = places - at
-
-number-requires : tie.Need-number-requires invariant-loop decreases-loop
-number-requires c κs = search rules
-
-above-children-requires : tie.Need-above-children-requires invariant-loop decreases-loop
-above-children-requires c κs = search rules
-
-loop-holds : tie.Need-loop-init invariant-loop decreases-loop
-loop-holds c k l m e =
-    let a = c.before.before.before.args in
-    let g = c.before.before.before.requires in
+pub loop-at-init : goal.loop-at-init
+loop-at-init c k l m e =
+    let a = c.args in
+    let g = c.requires in
     let is = number_one (record_at a.room.now k) a.r (fitting_of (bytes_drop (8 * k) g.bytes))
     (record { kind = omega arith; letter = omega arith; mark = omega arith; fourth = omega arith; left = omega arith; right = omega arith })
-    (e ∙ c.before.number.ensures) in
+    (e ∙ c.number-wanted.ensures) in
     let o = subst (Obeys k) (child_in_room a.places a.room.now k m ∙ is)
     (g.good.obeys k (omega (arith, length_first a.places a.room.now))) in
-    omega (arith, (c.above-children.ensures k o).0)
+    omega (arith, (c.above_children-at.ensures k o).0)
 
-number-at-requires : tie.Need-number-at-requires invariant-loop decreases-loop
-number-at-requires c κs = omega arith
-
-returns : tie.Need-returns invariant-loop decreases-loop
-returns c =
-    let a = c.before.before.before.before.before.before.before.args in
-    let l = c.before.before.before.loop in
-    let is = c.before.before.before.before.before.number.ensures in
-    told_at a.room.now a.places a.r c.before.before.before.before.before.before.before.requires.bytes
+pub returns-then-number_at-wanted : goal.returns-then-number_at-wanted
+returns-then-number_at-wanted c =
+    let a = c.args in
+    let l = c.loop-at in
+    let is = c.number-wanted.ensures in
+    told_at a.room.now a.places a.r c.requires.bytes
     (record { kind = omega arith; letter = omega arith; mark = omega arith; fourth = omega arith; left = omega arith; right = omega arith })
     l.at (omega arith) (λ k m e. l.invariant k m (omega arith) (e ∙ sym is))
-    (sym c.before.number_at.ensures ∙ c.if1.true ∙ is)
+    (sym c.number_at.ensures ∙ c.if-number_at-wanted.true ∙ is)
 
-add_at : tie.Need-overflow-add-at invariant-loop decreases-loop
-add_at c = omega arith
+pub loop-at-preserved : goal.loop-at-preserved
+loop-at-preserved c =
+    let l = c.loop-at in
+    below_more _ l.at l.invariant (λ m e. c.if-number_at-wanted.false (c.number_at.ensures ∙ e))
 
-loop-less : tie.Need-loop-smaller invariant-loop decreases-loop
-loop-less c = omega arith
-
-loop-again : tie.Need-loop-preserved invariant-loop decreases-loop
-loop-again c =
-    let l = c.before.before.before.loop in
-    below_more _ l.at l.invariant (λ m e. c.if1.false (c.before.number_at.ensures ∙ e))
-
-returns-2 : tie.Need-returns-2 invariant-loop decreases-loop
-returns-2 c =
-    let a = c.before.before.before.before.before.args in
-    let l = c.before.loop in
+pub returns : goal.returns
+returns c =
+    let a = c.args in
+    let l = c.loop-at in
     told-absent a.room.now a.places a.r
-    (λ k m e. l.invariant k (omega arith) m (e ∙ sym c.before.before.before.number.ensures))
-
-pub find_spec : {M : Type 1} → statement M
-find_spec =
-    tie.close
-    (tie.spec
-    invariant-loop
-    decreases-loop
-    number-requires
-    above-children-requires
-    loop-holds
-    number-at-requires
-    returns
-    add_at
-    loop-less
-    loop-again
-    returns-2)
+    (λ k m e. l.invariant k (omega arith) m (e ∙ sym c.number-wanted.ensures))

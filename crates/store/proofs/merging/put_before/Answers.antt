@@ -13,8 +13,7 @@ use Rattle.store.specs.Told.{told_making}
 use Rattle.store.specs.Good.{GoodStore}
 use Rattle.store.proofs.Laws.Choosing.{put_before_some}
 use Rattle.store.proofs.Laws.MergingRoom.{tells_placed}
-use Rattle.store.proofs.merging.put_before.Statement.{statement}
-use Rattle.store.proofs.merging.put_before.Tie as tie
+use Rattle.store.proofs.merging.put_before.Goals as goal
 
 module _ (room : List ℕ) (places kind member rest : ℕ) where
   abbrev whole : Making
@@ -34,29 +33,18 @@ module _ (room : List ℕ) (places kind member rest : ℕ) where
       ∙ sym (put_before_some (places_of room) kind member rest (store_in room places) (omega (arith, n))) in
       (m ∙ ap told_making f, w ∙ ap (λ (k : Making). laid (after k) room) f)
 
-returns : tie.Need-returns
+pub returns-then-rest-eq-NOTHING_PLACE : goal.returns-then-rest-eq-NOTHING_PLACE
+returns-then-rest-eq-NOTHING_PLACE c =
+    let s = c in
+    let told = told-alone s.args.room.now s.args.places s.args.kind s.args.member s.args.rest s.requires.good_store c.if-rest-eq-NOTHING_PLACE.true in
+    record { value = told.0; room_after = told.1 }
+
+pub returns : goal.returns
 returns c =
-    let s = c.before.before in
-    told-alone s.args.room.now s.args.places s.args.kind s.args.member s.args.rest s.requires.0 c.if1.true
-
-new-record-requires : tie.Need-new-record-requires
-new-record-requires c κs = search rules
-
-intern-requires : tie.Need-intern-requires
-intern-requires c κs = search rules
-
-same_length : tie.Need-same-length
-same_length c = search rules
-
-returns-2 : tie.Need-returns-2
-returns-2 c =
-    let s = c.before.before.before.before.before.before.before.before in
-    told-record s.args.room.now s.args.places s.args.kind s.args.member s.args.rest
-    c.before.before.before.before.before.before.if1.false
-    c.before.before.before.before.new_record.ensures
-    c.before.before.intern.ensures.0
-    c.before.before.intern.ensures.1
-
-pub put-before-spec : {M : Type 1} → statement M
-put-before-spec =
-    tie.close (tie.spec returns new-record-requires intern-requires same_length returns-2)
+    let s = c in
+    let told = told-record s.args.room.now s.args.places s.args.kind s.args.member s.args.rest
+    c.if-rest-eq-NOTHING_PLACE.false
+    c.new_record-r.ensures
+    c.intern.ensures.value
+    c.intern.ensures.room_after in
+    record { value = told.0; room_after = told.1 }

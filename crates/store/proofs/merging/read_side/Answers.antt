@@ -12,8 +12,7 @@ use Rattle.store.specs.Room.{store_in}
 use Rattle.store.specs.Making.{is_kind}
 use Rattle.store.specs.Told.{side}
 use Rattle.store.proofs.Laws.Room.{child_in_room}
-use Rattle.store.proofs.merging.read_side.Statement.{statement}
-use Rattle.store.proofs.merging.read_side.Tie as tie
+use Rattle.store.proofs.merging.read_side.Goals as goal
 
 -- The set that a record at a place is.
 abbrev side-of : ℕ → ℕ → Record → Side
@@ -35,28 +34,16 @@ module _ (room : List ℕ) (places kind place : ℕ) (l : place < places) (r : R
       go : ◌≡◌ {A = Side} (record { first = place; behind = 0 }) (side-of kind place r)
       go = rw (ne_eqb r.kind kind n)
 
-read-requires : tie.Need-read-requires
-read-requires c κs = search rules
+pub returns-then-r-kind : goal.returns-then-r-kind
+returns-then-r-kind c =
+    let s = c in
+    told-set s.args.room.now s.args.places s.args.kind s.args.place s.requires.place_lt_places _
+    c.read-r.ensures
+    c.if-r-kind.true
 
-cast-t7 : tie.Need-overflow-cast-t7
-cast-t7 c = search rules
-
-cast-t8 : tie.Need-overflow-cast-t8
-cast-t8 c = search rules
-
-returns : tie.Need-returns
+pub returns : goal.returns
 returns c =
-    let s = c.before.before.before.before.before.before in
-    told-set s.args.room.now s.args.places s.args.kind s.args.place s.requires.1 _
-    c.before.before.before.before.read.ensures
-    c.before.before.if1.true
-
-returns-2 : tie.Need-returns-2
-returns-2 c =
-    let s = c.before.before.before.before in
-    told-one s.args.room.now s.args.places s.args.kind s.args.place s.requires.1 _
-    c.before.before.read.ensures
-    c.if1.false
-
-pub read-side-spec : {M : Type 1} → statement M
-read-side-spec = tie.close (tie.spec read-requires cast-t7 cast-t8 returns returns-2)
+    let s = c in
+    told-one s.args.room.now s.args.places s.args.kind s.args.place s.requires.place_lt_places _
+    c.read-r.ensures
+    c.if-r-kind.false

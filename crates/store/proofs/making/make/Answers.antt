@@ -18,8 +18,7 @@ use Rattle.store.specs.Told.{told_making}
 use Rattle.store.specs.Good.{SetKind, GoodStore}
 use Rattle.store.proofs.Laws.Room.{laid_same}
 use Rattle.store.proofs.Laws.Rules.{merged_kind}
-use Rattle.store.proofs.making.make.Statement.{statement}
-use Rattle.store.proofs.making.make.Tie as tie
+use Rattle.store.proofs.making.make.Goals as goal
 
 -- The kind that was named, and what the rule said of it.
 module _ (room : List ℕ) (places kind letter left right : ℕ) {k : Kind} (is : k ≡ kind_of kind) {ruled : Ruled} (e : ruled ≡ rule k left right) where
@@ -55,90 +54,46 @@ module _ (room : List ℕ) (places kind letter left right : ℕ) {k : Kind} (is 
   merges-sets : ruled ≡ Merges → SetKind kind
   merges-sets f = merged_kind kind left right (ap (λ (k : Kind). rule k left right) (sym is) ∙ sym e ∙ f)
 
-named-requires : tie.Need-named-requires
-named-requires c κs = search rules
+pub set_of_both-requires : goal.set_of_both-requires
+set_of_both-requires c =
+    let s = c in record {
+      good_store = s.requires.good_store;
+      left_lt_places = s.requires.left_lt_places;
+      set_kind = merges-sets s.args.room.now s.args.places s.args.kind s.args.letter s.args.left s.args.right
+          c.named.ensures
+          c.rule.ensures
+          c.in-Merges.is;
+    }
 
-rule-requires : tie.Need-rule-requires
-rule-requires c κs = search rules
+pub returns-in-Gives : goal.returns-in-Gives
+returns-in-Gives c =
+    let a = c.args in
+    let told = told-given a.room.now a.places a.kind a.letter a.left a.right
+    c.named.ensures
+    c.rule.ensures
+    c.requires.good_store
+    c.in-Gives.is in
+    record { value = told.0; room_after = told.1 }
 
-enum-known-place : tie.Need-enum-known-place
-enum-known-place c = search rules
+pub returns-in-Stays : goal.returns-in-Stays
+returns-in-Stays c =
+    let a = c.args in
+    let told = told-interned a.room.now a.places a.kind a.letter a.left a.right
+    c.named.ensures
+    c.rule.ensures
+    c.in-Stays.is
+    c.new_record-r.ensures
+    c.intern.ensures.value
+    c.intern.ensures.room_after in
+    record { value = told.0; room_after = told.1 }
 
-enum_told : tie.Need-enum-told
-enum_told c = search rules
-
-new-record-requires : tie.Need-new-record-requires
-new-record-requires c κs = search rules
-
-intern-requires : tie.Need-intern-requires
-intern-requires c κs = search rules
-
-enum-told-2 : tie.Need-enum-told-2
-enum-told-2 c = search rules
-
-set-of-both-requires : tie.Need-set-of-both-requires
-set-of-both-requires c κs =
-    let s = c.before.before.before.before.before.before in (
-      s.requires.0,
-      (
-        s.requires.1,
-        merges-sets s.args.room.now s.args.places s.args.kind s.args.letter s.args.left s.args.right
-            c.before.before.before.before.named.ensures
-            c.before.before.before.rule.ensures
-            c.before.enum-told2.given.1,
-      ),
-    )
-
-returns : tie.Need-returns
-returns c =
-    let a = c.before.before.before.before.before.before.args in
-    told-given a.room.now a.places a.kind a.letter a.left a.right
-    c.before.before.before.before.named.ensures
-    c.before.before.before.rule.ensures
-    c.before.before.before.before.before.before.requires.0
-    c.before.place.given.1
-
-same_length : tie.Need-same-length
-same_length c = search rules
-
-returns-2 : tie.Need-returns-2
-returns-2 c =
-    let a = c.before.before.before.before.before.before.before.before.before.before.before.args in
-    told-interned a.room.now a.places a.kind a.letter a.left a.right
-    c.before.before.before.before.before.before.before.before.before.named.ensures
-    c.before.before.before.before.before.before.before.before.rule.ensures
-    c.before.before.before.before.before.before.enum_told.given.1
-    c.before.before.before.before.new_record.ensures
-    c.before.before.intern.ensures.0
-    c.before.before.intern.ensures.1
-
-same-length-2 : tie.Need-same-length-2
-same-length-2 c = search rules
-
-returns-3 : tie.Need-returns-3
-returns-3 c =
-    let a = c.before.before.before.before.before.before.before.before.before.args in
-    told-merged a.room.now a.places a.kind a.letter a.left a.right
-    c.before.before.before.before.before.before.before.named.ensures
-    c.before.before.before.before.before.before.rule.ensures
-    c.before.before.before.before.enum-told2.given.1
-    c.before.before.set_of_both.ensures.0
-    c.before.before.set_of_both.ensures.1
-
-pub make_spec : {M : Type 1} → statement M
-make_spec =
-    tie.close
-    (tie.spec
-    named-requires
-    rule-requires
-    enum-known-place
-    enum_told
-    new-record-requires
-    intern-requires
-    enum-told-2
-    set-of-both-requires
-    returns
-    same_length
-    returns-2
-    same-length-2
-    returns-3)
+pub returns-in-Merges : goal.returns-in-Merges
+returns-in-Merges c =
+    let a = c.args in
+    let told = told-merged a.room.now a.places a.kind a.letter a.left a.right
+    c.named.ensures
+    c.rule.ensures
+    c.in-Merges.is
+    c.set_of_both.ensures.value
+    c.set_of_both.ensures.room_after in
+    record { value = told.0; room_after = told.1 }

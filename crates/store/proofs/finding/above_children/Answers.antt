@@ -8,8 +8,7 @@ use Rattle.records.specs.declared.record.Record.{Record}
 use Rattle.records.specs.Kind.{kind_of, columns}
 use Rattle.cards.specs.Standing.{ChildField, LineOf, Obeys}
 use Rattle.cards.proofs.Laws.Line.{field_higher}
-use Rattle.store.proofs.finding.above_children.Statement.{statement}
-use Rattle.store.proofs.finding.above_children.Tie as tie
+use Rattle.store.proofs.finding.above_children.Goals as goal
 
 module _ (r : Record) {k : Kind} (is : k ≡ kind_of r.kind) {line : Columns} (has : line ≡ columns k)
     {left right n : ℕ} (left_first : (k : ℕ) → ChildField line.left k r.left → (left ≤ k) × ChildField line.left left r.left)
@@ -37,37 +36,11 @@ module _ (r : Record) {k : Kind} (is : k ≡ kind_of r.kind) {line : Columns} (h
         },
       )
 
-named-requires : tie.Need-named-requires
-named-requires c κs = search rules
-
-columns-of-requires : tie.Need-columns-of-requires
-columns-of-requires c κs = search rules
-
-above-child-requires : tie.Need-above-child-requires
-above-child-requires c κs = search rules
-
-above-child-requires-2 : tie.Need-above-child-requires-2
-above-child-requires-2 c κs = search rules
-
-higher-requires : tie.Need-higher-requires
-higher-requires c κs = search rules
-
-returns : tie.Need-returns
+pub returns : goal.returns
 returns c =
-    first c.before.before.before.before.before.args.r
-    c.before.before.before.before.named.ensures
-    c.before.before.before.columns_of.ensures
-    c.before.before.above-child.ensures
-    c.before.above-child2.ensures
+    first c.args.r
+    c.named.ensures
+    c.columns_of-line.ensures
+    c.above_child.ensures
+    c.above_child-2.ensures
     c.higher.ensures
-
-pub above-children-spec : {M : Type 1} → statement M
-above-children-spec =
-    tie.close
-    (tie.spec
-    named-requires
-    columns-of-requires
-    above-child-requires
-    above-child-requires-2
-    higher-requires
-    returns)

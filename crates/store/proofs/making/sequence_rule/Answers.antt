@@ -6,8 +6,7 @@ use lib.Dec.{eqb}
 use borrow.Author.Tests.{eq-eqb, ne_eqb}
 use Rattle.store.specs.declared.making.Ruled.TheVariants.{Gives, Stays}
 use Rattle.store.specs.Making.{nothing_place, empty_word_place, sequence_rule}
-use Rattle.store.proofs.making.sequence_rule.Statement.{statement}
-use Rattle.store.proofs.making.sequence_rule.Tie as tie
+use Rattle.store.proofs.making.sequence_rule.Goals as goal
 
 module _ (left right : ℕ) where
   told-nothing : eqb left nothing_place || eqb right nothing_place ≡ true → Gives nothing_place ≡ sequence_rule left right
@@ -24,23 +23,20 @@ module _ (left right : ℕ) where
       → Stays ≡ sequence_rule left right
   told-stays t n m = rw (t, ne_eqb left empty_word_place n, ne_eqb right empty_word_place m)
 
-returns : tie.Need-returns
-returns c = told-nothing c.before.args.left c.before.args.right c.if1.true
+pub returns-then-left-right : goal.returns-then-left-right
+returns-then-left-right c = told-nothing c.args.left c.args.right c.if-left-right.true
 
-returns-2 : tie.Need-returns-2
-returns-2 c =
-    let a = c.before.before.args in
-    told-right a.left a.right c.before.if1.false c.if2.true
+pub returns-then-left-eq-EMPTY_WORD_PLACE : goal.returns-then-left-eq-EMPTY_WORD_PLACE
+returns-then-left-eq-EMPTY_WORD_PLACE c =
+    let a = c.args in
+    told-right a.left a.right c.if-left-right.false c.if-left-eq-EMPTY_WORD_PLACE.true
 
-returns-3 : tie.Need-returns-3
-returns-3 c =
-    let a = c.before.before.before.args in
-    told-left a.left a.right c.before.before.if1.false c.before.if2.false c.if3.true
+pub returns-then-right-eq-EMPTY_WORD_PLACE : goal.returns-then-right-eq-EMPTY_WORD_PLACE
+returns-then-right-eq-EMPTY_WORD_PLACE c =
+    let a = c.args in
+    told-left a.left a.right c.if-left-right.false c.if-left-eq-EMPTY_WORD_PLACE.false c.if-right-eq-EMPTY_WORD_PLACE.true
 
-returns-4 : tie.Need-returns-4
-returns-4 c =
-    let a = c.before.before.before.args in
-    told-stays a.left a.right c.before.before.if1.false c.before.if2.false c.if3.false
-
-pub sequence-rule-spec : {M : Type 1} → statement M
-sequence-rule-spec = tie.close (tie.spec returns returns-2 returns-3 returns-4)
+pub returns : goal.returns
+returns c =
+    let a = c.args in
+    told-stays a.left a.right c.if-left-right.false c.if-left-eq-EMPTY_WORD_PLACE.false c.if-right-eq-EMPTY_WORD_PLACE.false

@@ -1,0 +1,9 @@
+-- `marked_at` reads the record at the place, which is the store's record there.
+use borrow.Author.Rules.{rules}
+use Rattle.store.proofs.Laws.Room.{child_in_room}
+use Rattle.store.proofs.interning.marked_at.Goals as goal
+
+pub returns : goal.returns
+returns c =
+    let a = c.args in
+    rw (c.read-r.ensures, child_in_room a.places a.room.now a.place c.requires.place_lt_places)
