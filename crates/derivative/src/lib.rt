@@ -40,7 +40,7 @@ pub enum Visited {
 }
 
 // The derivative of a place by a letter.
-#[cycle(derive_derive_part_derive_parts_with_left_with_right)]
+#[cycle(deriving)]
 pub fn derive(room: &mut [u8], places: usize, place: usize, letter: u8, budget: u32) -> Derived
     requires good_store { GoodStore room.old places }
     requires place_lt_places { place < places }
@@ -61,7 +61,7 @@ pub fn derive(room: &mut [u8], places: usize, place: usize, letter: u8, budget: 
 }
 
 // A part, derived. What the answer takes of the stack is given back here, so that a level of these calls takes little of it.
-#[cycle(derive_derive_part_derive_parts_with_left_with_right)]
+#[cycle(deriving)]
 fn derive_part(room: &mut [u8], places: usize, place: usize, letter: u8, budget: u32) -> Derived
     requires good_store { GoodStore room.old places }
     requires place_lt_places { place < places }
@@ -102,7 +102,7 @@ fn visit(room: &[u8], places: usize, place: usize, letter: u8) -> Visited
 }
 
 // Derives the left part, and goes on.
-#[cycle(derive_derive_part_derive_parts_with_left_with_right)]
+#[cycle(deriving)]
 fn derive_parts(
     room: &mut [u8],
     places: usize,
@@ -127,7 +127,7 @@ fn derive_parts(
 }
 
 // The left part came to x: makes the product where it is asked for, and goes on.
-#[cycle(derive_derive_part_derive_parts_with_left_with_right)]
+#[cycle(deriving)]
 fn with_left(
     room: &mut [u8],
     places: usize,
@@ -164,7 +164,7 @@ fn product_of(room: &mut [u8], places: usize, x: usize, right: usize, product: b
 }
 
 // It is x so far: where the right part is asked for, derives it and makes the choice of x and that.
-#[cycle(derive_derive_part_derive_parts_with_left_with_right)]
+#[cycle(deriving)]
 fn with_right(
     room: &mut [u8],
     places: usize,
