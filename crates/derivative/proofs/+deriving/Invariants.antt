@@ -5,9 +5,13 @@ use Prim.Native.Nat.{ℕ, ◌+◌, ◌*◌, ◌-◌, ◌<◌}
 use native.Mathlib.Omega.{arith}
 use mathlib.Core.Bool.{cond}
 use borrow.Author.Rules.{rules}
-use borrow.Author.Tests.{not_true, not_false}
+use borrow.Author.Tests.{not-true, not-false}
 use Rattle.derivative.proofs.Laws.Rooms.{first_next, parts_stopped, right_stopped, right_made, parts_derived, product_next, product_full, product_placed, right_unasked, unpaid, parts_lower, visited_leaf, visited_parts}
 use Rattle.derivative.proofs.+deriving.Given as goal
+
+-- The larger of two places.
+abbrev pub larger : ℕ → ℕ → ℕ
+larger a b = a + (b - a)
 
 abbrev pub decreases-derive : goal.decreases-derive
 decreases-derive l = 8 * l.place

@@ -6,7 +6,7 @@ use Rattle.derivative.proofs.product_of.Goals as goal
 pub returns-then-product : goal.returns-then-product
 returns-then-product c =
     let s = c in
-    let told = product_asked s.args.room.now s.args.places s.args.x s.args.right c.if-product.true c.make.ensures in
+    let told = product_asked s.args.room.now s.args.places s.args.x s.args.right c.if-product.true (c.make.ensures.value, c.make.ensures.room_after) in
     record { value = told.0; room_after = told.1 }
 
 pub returns-else-product : goal.returns-else-product

@@ -1,5 +1,5 @@
 -- `check_list` looks the opening pair up, and goes through the pairs where it is listed.
-use borrow.Author.Tests.{not_true, not_false}
+use borrow.Author.Tests.{not-true, not-false}
 use borrow.Author.Rules.{rules}
 use Rattle.checking.specs.Told.{mapped_list}
 use Rattle.checking.proofs.Laws.Rooms.{told_missing, on_listed}
@@ -20,7 +20,7 @@ returns c =
     let s = c.before.before.before.before.before.before in
     let a = s.args in
     told_missing s.requires.0 a.letters.now (mapped_list a.map.now a.list.now) a.x a.y a.budget c.before.stands_listed.ensures
-    (not_true c.before.stands_listed.result c.if1.true)
+    (not-true c.before.stands_listed.result c.if1.true)
 
 check-pairs-requires : tie.Need-check-pairs-requires
 check-pairs-requires c κs = search rules
@@ -34,7 +34,7 @@ returns-2 c =
     let s = i.before.before.before.before.before.before in
     let a = s.args in
     on_listed s.requires.0 a.letters.now (mapped_list a.map.now a.list.now) a.x a.y a.budget i.before.stands_listed.ensures
-    (not_false i.before.stands_listed.result i.if1.false)
+    (not-false i.before.stands_listed.result i.if1.false)
     c.before.before.check_pairs.ensures
 
 pub check-list-spec : {M : Type 1} → statement M

@@ -1,6 +1,6 @@
 -- `check_pair` compares the marks at the two places of the mapped pair, which are places of the store, and goes on with the letters.
 use mathlib.Core.Bool.{beq}
-use borrow.Author.Tests.{not_true, not_false}
+use borrow.Author.Tests.{not-true, not-false}
 use borrow.Author.Rules.{rules}
 use Rattle.checking.specs.Told.{mapped_list}
 use Rattle.checking.proofs.Laws.Listing.{pair_inside}
@@ -42,7 +42,7 @@ returns c =
     let a = s.args in
     told_differing s.requires.0 a.letters.now (mapped_list a.map.now a.list.now) a.n a.budget a.given m.mapped_pair.ensures
     c.before.before.before.marked_at.ensures c.before.marked-at2.ensures
-    (not_true (beq c.before.before.before.marked_at.result c.before.marked-at2.result) c.if1.true)
+    (not-true (beq c.before.before.before.marked_at.result c.before.marked-at2.result) c.if1.true)
 
 check-letters-requires : tie.Need-check-letters-requires
 check-letters-requires c κs =
@@ -61,7 +61,7 @@ returns-2 c =
     let a = s.args in
     on_agreeing s.requires.0 a.letters.now (mapped_list a.map.now a.list.now) a.n a.budget a.given m.mapped_pair.ensures
     i.before.before.before.marked_at.ensures i.before.marked-at2.ensures
-    (not_false (beq i.before.before.before.marked_at.result i.before.marked-at2.result) i.if1.false)
+    (not-false (beq i.before.before.before.marked_at.result i.before.marked-at2.result) i.if1.false)
     c.before.before.check_letters.ensures
 
 pub check-pair-spec : {M : Type 1} → statement M

@@ -6,7 +6,7 @@ use mathlib.Core.Bool.{Bool, true, false, ◌&&◌, false≢true}
 use mathlib.Core.List.{List}
 use mathlib.Core.Path.{◌≡◌, refl, sym, ◌∙◌, ap}
 use lib.Dec.{ltb}
-use borrow.Author.Tests.{ltb-true, lt-ltb, not_true, not_false}
+use borrow.Author.Tests.{ltb-true, lt-ltb, not-true, not-false}
 use borrow.Author.Count.{below_more}
 use Rattle.language.proofs.Laws.Tests.{and_left, and_right, and_both}
 use Rattle.pairs.specs.declared.pair.Pair.{Pair}
@@ -64,7 +64,7 @@ returns : tie.Need-returns invariant-loop decreases-loop
 returns c =
     let a = c.before.before.before.before.before.args in
     told-false a.list.now a.count c.before.before.before.loop.at (omega arith)
-    (sym c.before.named.ensures ∙ not_true c.before.named.result c.if1.true)
+    (sym c.before.named.ensures ∙ not-true c.before.named.result c.if1.true)
 
 add_at : tie.Need-overflow-add-at invariant-loop decreases-loop
 add_at c = omega arith
@@ -75,7 +75,7 @@ loop-less c = omega arith
 loop-again : tie.Need-loop-preserved invariant-loop decreases-loop
 loop-again c =
     let l = c.before.before.before.loop in
-    (omega arith, below_more _ l.at l.invariant.1 (sym c.before.named.ensures ∙ not_false c.before.named.result c.if1.false))
+    (omega arith, below_more _ l.at l.invariant.1 (sym c.before.named.ensures ∙ not-false c.before.named.result c.if1.false))
 
 returns-2 : tie.Need-returns-2 invariant-loop decreases-loop
 returns-2 c =

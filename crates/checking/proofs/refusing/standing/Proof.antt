@@ -4,7 +4,7 @@ use mathlib.Core.Bool.{true, false}
 use mathlib.Core.List.{List}
 use mathlib.Core.Path.{◌≡◌, sym, ◌∙◌}
 use lib.ListN.{length}
-use borrow.Author.Tests.{not_true, not_false}
+use borrow.Author.Tests.{not-true, not-false}
 use borrow.Author.Rules.{rules}
 use Rattle.refusals.specs.declared.Standing.TheVariants.{Good, Refused}
 use Rattle.refusals.specs.Numbers.{work_room_size, pair_room_size, pair_names_no_record}
@@ -148,7 +148,7 @@ returns-6 c =
     told-unnamed a.list.now a.work (cards-good t)
     (sym c.before.before.before.before.before.wrong_room.ensures ∙ c.before.before.before.before.if1.false)
     (sym c.before.before.before.wrong_pair_room.ensures ∙ c.before.before.if2.false)
-    (sym c.before.all_named.ensures ∙ not_true c.before.all_named.result c.if3.true)
+    (sym c.before.all_named.ensures ∙ not-true c.before.all_named.result c.if3.true)
 
 returns-7 : tie.Need-returns-7
 returns-7 c =
@@ -157,7 +157,7 @@ returns-7 c =
     told-good a.list.now a.work (cards-good t)
     (sym c.before.before.before.before.before.wrong_room.ensures ∙ c.before.before.before.before.if1.false)
     (sym c.before.before.before.wrong_pair_room.ensures ∙ c.before.before.if2.false)
-    (sym c.before.all_named.ensures ∙ not_false c.before.all_named.result c.if3.false)
+    (sym c.before.all_named.ensures ∙ not-false c.before.all_named.result c.if3.false)
 
 pub standing-spec : {M : Type 1} → statement M
 standing-spec =
