@@ -12,8 +12,7 @@ use Rattle.refusals.specs.Limits.{most_word}
 use Rattle.cards.specs.Examine.{pattern_card}
 use Rattle.store.specs.Room.{wrong_room}
 use Rattle.matching.specs.Refusals.{standing_of}
-use Rattle.matching.proofs.refusing.standing.Statement.{statement}
-use Rattle.matching.proofs.refusing.standing.Tie as tie
+use Rattle.matching.proofs.refusing.standing.Goals as goal
 
 -- What the card's examination found.
 module _ (card : List ℕ) (word room : ℕ) {found : Standing} (is : found ≡ pattern_card card) where
@@ -38,55 +37,30 @@ module _ (card : List ℕ) (word room : ℕ) {found : Standing} (is : found ≡ 
     unfolding standing_of
     told-good t w u = rw (good, le-ltb most_word word t, sym w ∙ u)
 
-examine-pattern-requires : tie.Need-examine-pattern-requires
-examine-pattern-requires c κs = search rules
+pub returns-in-Refused : goal.returns-in-Refused
+returns-in-Refused c =
+    let a = c.args in
+    told-card a.card.now a.word a.room c.examine_pattern-found.ensures c.in-Refused.is
 
-enum-known-found : tie.Need-enum-known-found
-enum-known-found c = search rules
+pub returns-then-word-gt-MOST_WORD : goal.returns-then-word-gt-MOST_WORD
+returns-then-word-gt-MOST_WORD c =
+    let a = c.args in
+    told-long a.card.now a.word a.room c.examine_pattern-found.ensures c.in_default.is c.if-word-gt-MOST_WORD.true
 
-returns : tie.Need-returns
+pub returns-then-wrong_room : goal.returns-then-wrong_room
+returns-then-wrong_room c =
+    let a = c.args in
+    told-room a.card.now a.word a.room c.examine_pattern-found.ensures
+    c.in_default.is
+    c.if-word-gt-MOST_WORD.false
+    c.wrong_room.ensures
+    c.if-wrong_room.true
+
+pub returns : goal.returns
 returns c =
-    let a = c.before.before.before.before.before.args in
-    told-card a.card.now a.word a.room c.before.before.before.examine-pattern.ensures c.before.found.given.1
-
-enum_told : tie.Need-enum-told
-enum_told c = search rules
-
-returns-2 : tie.Need-returns-2
-returns-2 c =
-    let a = c.before.before.before.before.before.args in
-    told-long a.card.now a.word a.room c.before.before.before.examine-pattern.ensures c.before.enum_told.given.1 c.if1.true
-
-wrong-room-requires : tie.Need-wrong-room-requires
-wrong-room-requires c κs = search rules
-
-returns-3 : tie.Need-returns-3
-returns-3 c =
-    let a = c.before.before.before.before.before.before.before.args in
-    told-room a.card.now a.word a.room c.before.before.before.before.before.examine-pattern.ensures
-    c.before.before.before.enum_told.given.1
-    c.before.before.if1.false
-    c.before.wrong_room.ensures
-    c.if2.true
-
-returns-4 : tie.Need-returns-4
-returns-4 c =
-    let a = c.before.before.before.before.before.before.before.args in
-    told-good a.card.now a.word a.room c.before.before.before.before.before.examine-pattern.ensures
-    c.before.before.before.enum_told.given.1
-    c.before.before.if1.false
-    c.before.wrong_room.ensures
-    c.if2.false
-
-pub standing-spec : {M : Type 1} → statement M
-standing-spec =
-    tie.close
-    (tie.spec
-    examine-pattern-requires
-    enum-known-found
-    returns
-    enum_told
-    returns-2
-    wrong-room-requires
-    returns-3
-    returns-4)
+    let a = c.args in
+    told-good a.card.now a.word a.room c.examine_pattern-found.ensures
+    c.in_default.is
+    c.if-word-gt-MOST_WORD.false
+    c.wrong_room.ensures
+    c.if-wrong_room.false

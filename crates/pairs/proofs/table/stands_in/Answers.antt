@@ -15,8 +15,7 @@ use Rattle.pairs.specs.Pair.{places_of_pair, pair_record, stands_in, StandsAt}
 use Rattle.pairs.specs.Room.{table_in}
 use Rattle.pairs.specs.Laws.Pair.{length_first_pairs, first_pair_at, fitting_pair_of, places-one}
 use Rattle.pairs.specs.Laws.Table.{stands_at, stands_listed}
-use Rattle.pairs.proofs.table.stands_in.Statement.{statement}
-use Rattle.pairs.proofs.table.stands_in.Tie as tie
+use Rattle.pairs.proofs.table.stands_in.Goals as goal
 
 module _ (room : List ℕ) (pairs left right : ℕ) where
   -- A pair with the number wanted has the two places.
@@ -49,61 +48,28 @@ module _ (room : List ℕ) (pairs left right : ℕ) where
       go true e = absurd (other (stands_at (table_in room pairs) left right e))
       go false e = sym e
 
-abbrev invariant-loop : tie.invariant-loop
-invariant-loop room pairs left right wanted at₀ at = (at ≤ pairs) × ((k : ℕ) → k < at → places_of_pair (pair_record room k) ≡ wanted → ⊥)
+pub loop-at-init : goal.loop-at-init
+loop-at-init c = (omega arith, λ k l. absurd (omega arith))
 
-abbrev decreases-loop : tie.decreases-loop
-decreases-loop room pairs left right wanted at₀ at = pairs - at
-
-both-requires : tie.Need-both-requires invariant-loop decreases-loop
-both-requires c κs = search rules
-
-loop-holds : tie.Need-loop-init invariant-loop decreases-loop
-loop-holds c = (omega arith, λ k l. absurd (omega arith))
-
-places-at-requires : tie.Need-places-at-requires invariant-loop decreases-loop
-places-at-requires c κs = omega arith
-
-returns : tie.Need-returns invariant-loop decreases-loop
-returns c =
-    let s = c.before.before.before.before.before.before in
+pub returns-then-places_at-wanted : goal.returns-then-places_at-wanted
+returns-then-places_at-wanted c =
+    let s = c in
     let a = s.args in
     told-true a.room.now a.pairs a.left a.right
-    (bytes_all a.room.now (λ i. (c.before.before.before.before.before.shared-slice-known.given i).fits))
+    (bytes_all a.room.now (λ i. (c.shared_slice_known-1.given i).fits))
     (omega arith)
-    c.before.before.before.loop.at
+    c.loop-at.at
     (omega arith)
-    (sym c.before.places-at.ensures ∙ c.if1.true ∙ c.before.before.before.before.both.ensures)
+    (sym c.places_at.ensures ∙ c.if-places_at-wanted.true ∙ c.both-wanted.ensures)
 
-add_at : tie.Need-overflow-add-at invariant-loop decreases-loop
-add_at c = omega arith
+pub loop-at-preserved : goal.loop-at-preserved
+loop-at-preserved c =
+    let l = c.loop-at in
+    (omega arith, below_more _ l.at l.invariant.1 (λ e. c.if-places_at-wanted.false (c.places_at.ensures ∙ e)))
 
-loop-less : tie.Need-loop-smaller invariant-loop decreases-loop
-loop-less c = omega arith
-
-loop-again : tie.Need-loop-preserved invariant-loop decreases-loop
-loop-again c =
-    let l = c.before.before.before.loop in
-    (omega arith, below_more _ l.at l.invariant.1 (λ e. c.if1.false (c.before.places-at.ensures ∙ e)))
-
-returns-2 : tie.Need-returns-2 invariant-loop decreases-loop
-returns-2 c =
-    let a = c.before.before.before.before.args in
-    let l = c.before.loop in
+pub returns : goal.returns
+returns c =
+    let a = c.args in
+    let l = c.loop-at in
     told-false a.room.now a.pairs a.left a.right
-    (λ k m e. l.invariant.1 k (omega arith) (e ∙ sym c.before.before.both.ensures))
-
-pub stands-in-spec : {M : Type 1} → statement M
-stands-in-spec =
-    tie.close
-    (tie.spec
-    invariant-loop
-    decreases-loop
-    both-requires
-    loop-holds
-    places-at-requires
-    returns
-    add_at
-    loop-less
-    loop-again
-    returns-2)
+    (λ k m e. l.invariant.1 k (omega arith) (e ∙ sym c.both-wanted.ensures))
