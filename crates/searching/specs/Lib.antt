@@ -6,4 +6,5 @@ pub mod Search
 pub mod Along
 pub mod FirstWord
 pub mod Cost
+pub mod Laws
 pub mod Told

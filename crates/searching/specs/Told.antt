@@ -12,8 +12,8 @@ use Rattle.searching.specs.declared.going.Going.{Going as CodeGoing}
 use Rattle.searching.specs.declared.going.Going.TheVariants.{On, Ends as EndsCode}
 use Rattle.searching.specs.ReadOff.{word_of}
 use Rattle.searching.specs.Search.{Search, same, different, stopped, Going, on, ends}
-use Rattle.searching.proofs.Laws.Words.{Ordered}
-use Rattle.searching.proofs.Laws.Keeps.{Tabled}
+use Rattle.searching.specs.Laws.Words.{Ordered}
+use Rattle.searching.specs.Laws.Keeps.{Tabled}
 
 -- A pair room of legal size.
 pub record LegalPairs (room : List ℕ) : Type 0 where

@@ -5,7 +5,8 @@ use Rattle.machine.specs.Laws.Accepts as machine
 use Rattle.records.specs.declared.record.Record.{Record}
 use Rattle.pairs.specs.declared.pair.Pair.{Pair}
 use Rattle.searching.specs.Cost.{list_cost}
-use Rattle.searching.proofs.Laws.StoreMachine.{having, store_lawful, store_priced}
+use Rattle.searching.specs.Laws.StoreMachine.{having}
+use Rattle.searching.proofs.Laws.StoreMachine.{store_lawful, store_priced}
 use Rattle.searching.proofs.Laws.Cost.{list_cost_is}
 use Rattle.checking.specs.Check.{accepted, check_list}
 use Rattle.checking.specs.Point.{GoodTable}

@@ -13,7 +13,8 @@ use Rattle.records.specs.declared.record.Record.{Record}
 use Rattle.store.proofs.Laws.Wall.{Ready}
 use Rattle.derivative.proofs.Laws.Steps.{Why}
 use Rattle.pairs.specs.declared.pair.Pair.{Pair}
-use Rattle.searching.proofs.Laws.StoreMachine.{Having, having, store_machine, store_sense, store_lawful, Beside, store_redoing}
+use Rattle.searching.specs.Laws.StoreMachine.{Having, having, store_machine}
+use Rattle.searching.proofs.Laws.StoreMachine.{store_sense, store_lawful, Beside, store_redoing}
 use Rattle.checking.specs.Check.{Checking, accepted, rejected, cut_off, check_list}
 use Rattle.checking.specs.Along.{visits_of_list}
 use Rattle.checking.specs.Point.{GoodTable, FailsAt}

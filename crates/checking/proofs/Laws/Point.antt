@@ -14,7 +14,8 @@ use Rattle.store.proofs.Laws.Wall.{Ready}
 use Rattle.store.proofs.Laws.Languages.{language_at}
 use Rattle.pairs.specs.declared.pair.Pair.{Pair}
 use Rattle.pairs.specs.Pair.{pair_at, StandsAt}
-use Rattle.searching.proofs.Laws.StoreMachine.{Having, having, store_machine, store_sense, store_lawful}
+use Rattle.searching.specs.Laws.StoreMachine.{Having, having, store_machine}
+use Rattle.searching.proofs.Laws.StoreMachine.{store_sense, store_lawful}
 use Rattle.checking.specs.Point.{Reaches, Misses, RightPair, GoodTable, FailsAt, opening_missing, marks_differ, not_listed}
 
 -- The pair stands in the list.

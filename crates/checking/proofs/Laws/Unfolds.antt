@@ -12,7 +12,7 @@ use Rattle.records.specs.declared.record.Record.{Record}
 use Rattle.derivative.specs.Derivative.{Deriving, derived, stopped, derive}
 use Rattle.pairs.specs.declared.pair.Pair.{Pair}
 use Rattle.pairs.specs.Pair.{stands_in}
-use Rattle.searching.proofs.Laws.StoreMachine.{Having, having, of_deriving, store_machine}
+use Rattle.searching.specs.Laws.StoreMachine.{Having, having, of_deriving, store_machine}
 use Rattle.searching.proofs.Laws.Unfolds.{stands_is}
 use Rattle.checking.specs.Check.{Checking, accepted, rejected, cut_off, Passing, passes, ends, check_letters, check_pairs, check_list}
 use Rattle.checking.proofs.Laws.Turns.{marks_equal, by_listed, right_then, left_then, letters_then, marks_then, opening_then}

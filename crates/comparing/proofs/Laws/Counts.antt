@@ -26,7 +26,8 @@ use Rattle.comparing.specs.Compare.{compare_standing, Outcome, told_at, of_searc
 use Rattle.comparing.proofs.Laws.Unfolds.{searched_is}
 use Rattle.comparing.proofs.Laws.Refusals.{Unrefused, unrefused, at_once_number}
 use Rattle.searching.proofs.Laws.Search.{Halts, no_free_place, nothing_left, no_free_pair, kept_of, halts_of}
-use Rattle.searching.proofs.Laws.StoreMachine.{Having, having, store_machine, store_sense, store_lawful}
+use Rattle.searching.specs.Laws.StoreMachine.{Having, having, store_machine}
+use Rattle.searching.proofs.Laws.StoreMachine.{store_sense, store_lawful}
 
 -- How a call comes to its outcome.
 pub data Call (left right : List ℕ) (work pairs word budget : ℕ) : Outcome → Type 0 where

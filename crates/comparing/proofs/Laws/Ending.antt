@@ -22,7 +22,7 @@ use Rattle.comparing.specs.Compare.{Outcome, of_word, of_search}
 use Rattle.comparing.specs.Promise.{Leaves}
 use Rattle.comparing.specs.Told.{Wrote, was_written, was_short}
 use Rattle.searching.specs.Told.{LegalPairs, OrderedPairs, found_word, TellsEnd, tells_same, tells_different, tells_stopped, end_store, end_table, Ends}
-use Rattle.searching.proofs.Laws.Words.{Ordered}
+use Rattle.searching.specs.Laws.Words.{Ordered}
 use Rattle.searching.proofs.Laws.Keeps.{KeepsSearch, keeps_same, keeps_different, keeps_stopped, search_keeps}
 use Rattle.searching.proofs.Laws.Rooms.{listed_byte}
 

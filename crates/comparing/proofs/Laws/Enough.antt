@@ -23,7 +23,8 @@ use Rattle.pairs.specs.Laws.Tried.{tried_bytes}
 use Rattle.pairs.specs.Opening.{Opening, opened, unopened, open_both}
 use Rattle.pairs.specs.Laws.Opening.{BothOpened}
 use Rattle.searching.specs.Search.{search}
-use Rattle.searching.proofs.Laws.StoreMachine.{Having, having, Grown, store_machine, store_lawful, Beside, store_redoing}
+use Rattle.searching.specs.Laws.StoreMachine.{Having, having, store_machine}
+use Rattle.searching.proofs.Laws.StoreMachine.{Grown, store_lawful, Beside, store_redoing}
 use Rattle.answers.specs.Comparing.{Verdict, are_same, are_different, word_room_short}
 use Rattle.comparing.specs.Compare.{compare_standing, Outcome, told_at, of_search, search_opened, compare_by, compare_outcome}
 use Rattle.comparing.proofs.Laws.Refusals.{Unrefused, no_refusal}

@@ -6,7 +6,7 @@ use Rattle.machine.specs.Laws.Outcome.{of_word as machine-of-word, of_search as 
 use Rattle.machine.specs.Laws.Outcome as machine-outcome
 use Rattle.pairs.specs.declared.pair.Pair.{Pair}
 use Rattle.searching.specs.Search.{search}
-use Rattle.searching.proofs.Laws.StoreMachine.{Having, store_machine}
+use Rattle.searching.specs.Laws.StoreMachine.{Having, store_machine}
 use Rattle.searching.proofs.Laws.Unfolds.{told, search_is}
 use Rattle.comparing.specs.Compare.{Outcome, told_at, of_word, of_search}
 

@@ -23,7 +23,8 @@ use Rattle.searching.specs.ReadOff.{word_of}
 use Rattle.searching.specs.Search.{Search, same, different, stopped, Going, on, ends, look, by_letter, by_letters, take_pairs, search}
 use Rattle.searching.specs.Along.{visits_made, letter_visits, letters_visits, pairs_visits, search_visits}
 use Rattle.searching.proofs.Laws.Parts.{after_deriving, DeriveLaw, after_going, search_after, turned, looked}
-use Rattle.searching.proofs.Laws.Keeps.{Tabled, tabled_grows, tabled_none, KeptBoth, KeepsGoing, keeps_on, keeps_ends_different, keeps_ends_stopped, look_keeps, by_letter_keeps, by_letters_keeps}
+use Rattle.searching.specs.Laws.Keeps.{Tabled}
+use Rattle.searching.proofs.Laws.Keeps.{tabled_grows, tabled_none, KeptBoth, KeepsGoing, keeps_on, keeps_ends_different, keeps_ends_stopped, look_keeps, by_letter_keeps, by_letters_keeps}
 
 -- The budget that is left where a search ends, and after a part of it.
 

@@ -11,7 +11,8 @@ use Rattle.derivative.specs.Visits.{visits}
 use Rattle.pairs.specs.declared.pair.Pair.{Pair}
 use Rattle.searching.specs.Search.{same, search}
 use Rattle.searching.specs.Cost.{letters_cost, list_cost}
-use Rattle.searching.proofs.Laws.StoreMachine.{Having, having, store_lawful, store_priced}
+use Rattle.searching.specs.Laws.StoreMachine.{Having, having}
+use Rattle.searching.proofs.Laws.StoreMachine.{store_lawful, store_priced}
 use Rattle.searching.proofs.Laws.Unfolds.{in_room, search_within}
 
 -- What a list costs in a store is what a table costs over the machine.

@@ -10,20 +10,12 @@ use Rattle.records.specs.declared.record.Record.{Record}
 use Rattle.store.proofs.Laws.Wall.{Grows, grows_length, Ready, Kept, kept_refl, kept_trans}
 use Rattle.pairs.specs.declared.pair.Pair.{Pair}
 use Rattle.pairs.specs.Pair.{pair_at}
+use Rattle.searching.specs.Laws.Keeps.{Tabled}
 use Rattle.searching.specs.Search.{Search, same, different, stopped, Going, on, ends, look, by_letter, by_letters, take_pairs, search}
-use Rattle.searching.proofs.Laws.StoreMachine.{Having, having, store_machine, store_sense, store_lawful}
+use Rattle.searching.specs.Laws.StoreMachine.{Having, having, store_machine}
+use Rattle.searching.proofs.Laws.StoreMachine.{store_sense, store_lawful}
 use Rattle.searching.proofs.Laws.Unfolds.{told, told_going, look_is, by_letter_is, by_letters_is, take_pairs_is, search_is}
-use Rattle.searching.proofs.Laws.Words.{Ordered}
-
--- A table over a store: its places are places of the store, each pair comes from one with a lower number, its letters are bytes, and it
--- fits the pair room.
-pub record Tabled (pairs : ℕ) (store : List Record) (table : List Pair) : Type 0 where
-  pub inside : (n : ℕ) → n < length table → ((pair_at table n).left < length store) × ((pair_at table n).right < length store)
-  pub ordered : Ordered table
-  pub origins : (n : ℕ) → n < length table → (pair_at table n).origin ≤ n
-  pub letters : (n : ℕ) → n < length table → (pair_at table n).letter < 256
-  pub distinct : (n m : ℕ) → n < m → m < length table → (pair_at table n).left ≡ (pair_at table m).left → (pair_at table n).right ≡ (pair_at table m).right → ⊥
-  pub fits : length table ≤ pairs
+use Rattle.searching.specs.Laws.Words.{Ordered}
 
 -- What a part of the search leaves, where it ends too.
 pub record KeptBoth (room pairs : ℕ) (store : List Record) (table : List Pair) (budget : ℕ)

@@ -22,7 +22,8 @@ use Rattle.searching.specs.declared.going.Going.{Going as CodeGoing}
 use Rattle.searching.specs.declared.going.Going.TheVariants.{On, Ends as EndsCode}
 use Rattle.searching.specs.Search.{Search, Going, on, ends}
 use Rattle.searching.specs.Told.{GoodPairs, TellsEnd, TellsGoing, tells_on, tells_ends, end_store, end_table, going_store, going_table, Goes, Ends}
-use Rattle.searching.proofs.Laws.Keeps.{Tabled, KeptBoth, kept_both_refl, kept_both_trans, KeepsSearch, keeps_same, keeps_different, keeps_stopped, KeepsGoing, keeps_on, keeps_ends_different, keeps_ends_stopped}
+use Rattle.searching.specs.Laws.Keeps.{Tabled}
+use Rattle.searching.proofs.Laws.Keeps.{KeptBoth, kept_both_refl, kept_both_trans, KeepsSearch, keeps_same, keeps_different, keeps_stopped, KeepsGoing, keeps_on, keeps_ends_different, keeps_ends_stopped}
 
 -- A letter of a list of bytes is a byte.
 pub listed_byte : {letters : List ℕ} → Bytes letters → (c : ℕ) → Listed letters c → IsByte c

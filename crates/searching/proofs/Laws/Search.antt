@@ -20,7 +20,8 @@ use Rattle.derivative.proofs.Laws.Steps.{no_place, no_budget}
 use Rattle.pairs.specs.declared.pair.Pair.{Pair}
 use Rattle.searching.specs.Search.{Search, same, different, stopped, search}
 use Rattle.searching.specs.FirstWord.{Alike, OnlyOne, only_left, only_right}
-use Rattle.searching.proofs.Laws.StoreMachine.{Having, having, Grown, store_machine, store_sense, store_lawful}
+use Rattle.searching.specs.Laws.StoreMachine.{Having, having, store_machine}
+use Rattle.searching.proofs.Laws.StoreMachine.{Grown, store_sense, store_lawful}
 use Rattle.searching.proofs.Laws.Unfolds.{told, search_is}
 
 -- Why a search stops.

@@ -26,42 +26,14 @@ use Rattle.derivative.proofs.Laws.Derivative.{Means, derive_law}
 use Rattle.pairs.specs.declared.pair.Pair.{Pair}
 use Rattle.pairs.specs.Pair.{no_pair}
 use Rattle.pairs.specs.Laws.Table.{has_places, has_both, both_had}
+use Rattle.searching.specs.Laws.StoreMachine.{Having, having, of_deriving, store_machine}
 use Rattle.searching.proofs.Laws.Parts.{DeriveLaw}
-
--- What the machine has.
-pub record Having : Type 0 where
-  pub room : ℕ
-  pub store : List Record
-  pub budget : ℕ
 
 -- The second has the first's room, its store with records added at the end, and no more budget.
 pub record Grown (h k : Having) : Type 0 where
   pub room : k.room ≡ h.room
   pub store : Grows h.store k.store
   pub spent : k.budget ≤ h.budget
-
-abbrev pub having : ℕ → List Record → ℕ → Having
-having room store budget = record { room = room; store = store; budget = budget }
-
--- A derivation as a step.
-abbrev pub of_deriving : ℕ → Deriving → Stepped ℕ Having
-of_deriving room (derived place store budget) = stepped place (having room store budget)
-of_deriving room (unfinished number store budget) = halted number (having room store budget)
-
--- The machine: marks and derivations of places, and pairs of places as rows.
-abbrev pub store_machine : Machine ℕ Having Pair
-store_machine =
-    record {
-      mark = λ h x. marked (child h.store x);
-      step = λ c x h. of_deriving h.room (derive h.room c x h.store h.budget);
-      row = λ x y origin letter. record { left = x; right = y; origin = origin; letter = letter };
-      left = λ p. p.left;
-      right = λ p. p.right;
-      origin = λ p. p.origin;
-      letter = λ p. p.letter;
-      no_row = no_pair;
-      has_states = λ p x y. has_places x y p;
-    }
 
 -- In the store the letter leads from one place to the other at the cost of the visits, and nothing is added.
 abbrev pub LeadsTo : List Record → ℕ → ℕ → ℕ → Type 0

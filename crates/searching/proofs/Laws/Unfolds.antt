@@ -15,7 +15,7 @@ use Rattle.pairs.specs.Laws.Table as found
 use Rattle.searching.specs.ReadOff.{word_to, word_of}
 use Rattle.searching.specs.Search.{Search, same, different, stopped, Going, on, ends, look, by_letter, by_letters, take_pairs, search}
 use Rattle.searching.proofs.Laws.Parts.{after_deriving, after_going, search_after, turned, looked}
-use Rattle.searching.proofs.Laws.StoreMachine.{Having, having, of_deriving, store_machine}
+use Rattle.searching.specs.Laws.StoreMachine.{Having, having, of_deriving, store_machine}
 
 -- What the search over the machine comes to, with the room left out.
 

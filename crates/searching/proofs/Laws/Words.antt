@@ -5,13 +5,10 @@ use Rattle.std.proofs.Common.{sym, ◌∙◌, ap}
 use Rattle.machine.specs.Laws.Words as machine
 use Rattle.pairs.specs.declared.pair.Pair.{Pair}
 use Rattle.pairs.specs.Pair.{pair_at}
+use Rattle.searching.specs.Laws.Words.{Ordered}
 use Rattle.searching.specs.ReadOff.{word_of}
-use Rattle.searching.proofs.Laws.StoreMachine.{store_machine}
+use Rattle.searching.specs.Laws.StoreMachine.{store_machine}
 use Rattle.searching.proofs.Laws.Unfolds.{word_is}
-
--- Every pair but the opening one came from a pair with a lower number.
-abbrev pub Ordered : List Pair → Type 0
-Ordered table = machine.Ordered store_machine table
 
 pub word_step : (table : List Pair) → Ordered table → (n : ℕ) → suc n < length table
     → word_of table (suc n) ≡ word_of table (pair_at table (suc n)).origin ++ (pair_at table (suc n)).letter ∷ []
