@@ -45,6 +45,8 @@ none_in_one e {word} b (only_right not_left in_right) = not_left (e.from word b 
 never : {A B : Language} → Equal A B → {pairs room : ℕ} {written : Word} {v : Verdict} → TrueVerdict A B pairs room written v → Differs v → ⊥
 never e (different_true f n) d = none_in_one e f.bytes f.only
 never e (short_true w left_has f n) d = none_in_one e f.bytes f.only
+never e (same_true _) d = elim d [ ]
+never e (refused_true) d = elim d [ ]
 
 module _ (left right : List ℕ) (lefts : Bytes left) (rights : Bytes right) (related : Related (card_pattern left) (card_pattern right))
     (work pairs word budget : ℕ) where
