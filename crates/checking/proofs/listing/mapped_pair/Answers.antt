@@ -10,8 +10,7 @@ use Rattle.pairs.specs.Pair.{pair_record, pair_at}
 use Rattle.pairs.specs.Room.{pairs_of}
 use Rattle.checking.specs.Told.{mapped_list, Named}
 use Rattle.checking.proofs.Laws.Listing.{mapped_pair, listed_pair_at}
-use Rattle.checking.proofs.listing.mapped_pair.Statement.{statement}
-use Rattle.checking.proofs.listing.mapped_pair.Tie as tie
+use Rattle.checking.proofs.listing.mapped_pair.Goals as goal
 
 -- The pair that was read names two entries of the map.
 both-named : (list map : List ℕ) (n : ℕ) → Named list map → n < pairs_of list → {p : Pair} → p ≡ pair_record list n
@@ -24,45 +23,25 @@ read_mapped : (list map : List ℕ) (n : ℕ) → n < pairs_of list → {p : Pai
     → ◌≡◌ {A = Pair} (record { left = l; right = r; origin = p.origin; letter = p.letter }) (pair_at (mapped_list map list) n)
 read_mapped list map n inside is e f = rw (e, f) (ap (mapped_pair map) is ∙ sym (listed_pair_at map list n inside))
 
-read-requires : tie.Need-read-requires
-read-requires c κs = search rules
-
-cast-place-of : tie.Need-overflow-cast-place-of
-cast-place-of c = search rules
-
-place-of-requires : tie.Need-place-of-requires
-place-of-requires c κs =
-    let s = c.before.before.before.before in
-    let l = both-named s.args.list.now s.args.map.now s.args.n s.requires.0 s.requires.1 c.before.read.ensures in
+pub place_of-requires : goal.place_of-requires
+place_of-requires c =
+    let s = c in
+    let l = both-named s.args.list.now s.args.map.now s.args.n s.requires.named s.requires.n_bound c.read-p.ensures in
     let left = l.0 in
     let right = l.1 in
     omega arith
 
-cast-place-of-2 : tie.Need-overflow-cast-place-of-2
-cast-place-of-2 c = search rules
-
-place-of-requires-2 : tie.Need-place-of-requires-2
-place-of-requires-2 c κs =
-    let s = c.before.before.before.before.before.before in
-    let l = both-named s.args.list.now s.args.map.now s.args.n s.requires.0 s.requires.1 c.before.before.before.read.ensures in
+pub place_of-requires-2 : goal.place_of-requires-2
+place_of-requires-2 c =
+    let s = c in
+    let l = both-named s.args.list.now s.args.map.now s.args.n s.requires.named s.requires.n_bound c.read-p.ensures in
     let left = l.0 in
     let right = l.1 in
     omega arith
 
-returns : tie.Need-returns
+pub returns : goal.returns
 returns c =
-    let s = c.before.before.before.before.before.before.before in
-    read_mapped s.args.list.now s.args.map.now s.args.n s.requires.1 c.before.before.before.before.read.ensures
-    c.before.before.place_of.ensures
-    c.place-of2.ensures
-
-pub mapped-pair-spec : {M : Type 1} → statement M
-mapped-pair-spec =
-    tie.close
-    (tie.spec
-    read-requires
-    cast-place-of
-    place-of-requires
-    cast-place-of-2
-    place-of-requires-2
-    returns)
+    let s = c in
+    read_mapped s.args.list.now s.args.map.now s.args.n s.requires.n_bound c.read-p.ensures
+    c.place_of.ensures
+    c.place_of-2.ensures

@@ -15,8 +15,7 @@ use Rattle.pairs.specs.Room.{pairs_of, listed_pairs}
 use Rattle.pairs.specs.Laws.Pair.{length_first_pairs, first_pair_at}
 use Rattle.checking.specs.Outcome.{all_named}
 use Rattle.checking.proofs.Laws.Refusals.{named_below, below_named}
-use Rattle.checking.proofs.naming.all_named.Statement.{statement}
-use Rattle.checking.proofs.naming.all_named.Tie as tie
+use Rattle.checking.proofs.naming.all_named.Goals as goal
 
 -- What the code asks of one pair.
 abbrev both_below : List ℕ → ℕ → ℕ → Bool
@@ -26,8 +25,8 @@ module _ (list : List ℕ) (count : ℕ) where
   abbrev asked : Pair → Bool
   asked p = ltb p.left count && ltb p.right count
 
-  told-false : (k : ℕ) → k < pairs_of list → both_below list count k ≡ false → false ≡ all_named count (listed_pairs list)
-  told-false k l e = go (all_named count (listed_pairs list)) refl
+  told_false : (k : ℕ) → k < pairs_of list → both_below list count k ≡ false → false ≡ all_named count (listed_pairs list)
+  told_false k l e = go (all_named count (listed_pairs list)) refl
     where
       go : (b : Bool) → all_named count (listed_pairs list) ≡ b → false ≡ all_named count (listed_pairs list)
       go true f =
@@ -36,8 +35,8 @@ module _ (list : List ℕ) (count : ℕ) where
           absurd (false≢true (sym e ∙ sym is ∙ and_both (lt-ltb _ count h.0) (lt-ltb _ count h.1)))
       go false f = sym f
 
-  told-true : ((k : ℕ) → k < pairs_of list → both_below list count k ≡ true) → true ≡ all_named count (listed_pairs list)
-  told-true h =
+  told_true : ((k : ℕ) → k < pairs_of list → both_below list count k ≡ true) → true ≡ all_named count (listed_pairs list)
+  told_true h =
       sym
       (below_named count (listed_pairs list)
       (λ n m.
@@ -48,51 +47,22 @@ module _ (list : List ℕ) (count : ℕ) where
         ltb-true p.right count (and_right (ltb p.left count) (ltb p.right count) e),
       )))
 
-abbrev invariant-loop : tie.invariant-loop
-invariant-loop list count pairs at₀ at = (at ≤ pairs) × ((k : ℕ) → k < at → both_below list count k ≡ true)
+pub loop-at-init : goal.loop-at-init
+loop-at-init c = (omega arith, λ k l. absurd (omega arith))
 
-abbrev decreases-loop : tie.decreases-loop
-decreases-loop list count pairs at₀ at = pairs - at
+pub returns-then-not-named : goal.returns-then-not-named
+returns-then-not-named c =
+    let a = c.args in
+    told_false a.list.now a.count c.loop-at.at (omega arith)
+    (sym c.named.ensures ∙ c.if-not-named.true)
 
-loop-holds : tie.Need-loop-init invariant-loop decreases-loop
-loop-holds c = (omega arith, λ k l. absurd (omega arith))
+pub loop-at-preserved : goal.loop-at-preserved
+loop-at-preserved c =
+    let l = c.loop-at in
+    (omega arith, below_more _ l.at l.invariant.1 (sym c.named.ensures ∙ c.if-not-named.false))
 
-named-requires : tie.Need-named-requires invariant-loop decreases-loop
-named-requires c κs = omega arith
-
-returns : tie.Need-returns invariant-loop decreases-loop
+pub returns : goal.returns
 returns c =
-    let a = c.before.before.before.before.before.args in
-    told-false a.list.now a.count c.before.before.before.loop.at (omega arith)
-    (sym c.before.named.ensures ∙ not-true c.before.named.result c.if1.true)
-
-add_at : tie.Need-overflow-add-at invariant-loop decreases-loop
-add_at c = omega arith
-
-loop-less : tie.Need-loop-smaller invariant-loop decreases-loop
-loop-less c = omega arith
-
-loop-again : tie.Need-loop-preserved invariant-loop decreases-loop
-loop-again c =
-    let l = c.before.before.before.loop in
-    (omega arith, below_more _ l.at l.invariant.1 (sym c.before.named.ensures ∙ not-false c.before.named.result c.if1.false))
-
-returns-2 : tie.Need-returns-2 invariant-loop decreases-loop
-returns-2 c =
-    let a = c.before.before.before.args in
-    let l = c.before.loop in
-    told-true a.list.now a.count (λ k m. l.invariant.1 k (omega arith))
-
-pub all-named-spec : {M : Type 1} → statement M
-all-named-spec =
-    tie.close
-    (tie.spec
-    invariant-loop
-    decreases-loop
-    loop-holds
-    named-requires
-    returns
-    add_at
-    loop-less
-    loop-again
-    returns-2)
+    let a = c.args in
+    let l = c.loop-at in
+    told_true a.list.now a.count (λ k m. l.invariant.1 k (omega arith))
