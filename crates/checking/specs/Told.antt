@@ -3,7 +3,7 @@ use Rattle.std.specs.Prelude.{ℕ, ◌/◌, ◌<◌, ◌≤◌, true, false, Lis
 use Rattle.std.specs.Bool.{beq}
 use Rattle.answers.specs.declared.Checked.{Checked}
 use Rattle.answers.specs.Checking.{at_marks, told}
-use Rattle.answers.specs.Laws.Checking.{answer_told}
+use Rattle.answers.proofs.Laws.Checking.{answer_told}
 use Rattle.records.specs.declared.record.Record.{Record}
 use Rattle.refusals.specs.declared.Standing.TheVariants.{Good}
 use Rattle.records.specs.Record.{child}

@@ -24,6 +24,7 @@ const MOST_HEX: usize = MOST_JOB / 2;
 pub const MOST_ANSWER: usize = 2 * LENT_WORD + 2048;
 
 // How many bytes of the answer stand at the start of the room; those behind them are left as lent.
+#[tactic(auto, using(crate::specs::Laws::Answering::too_long_answered))]
 pub fn answer(text: &[u8], out: &mut [u8; MOST_ANSWER]) -> usize
     ensures { AnswersIn text.now out.old result out.new }
 {

@@ -7,7 +7,7 @@ use Rattle.std.proofs.Math.Path.{refl, ap₂}
 use Rattle.answers.specs.declared.Checked.{Checked}
 use Rattle.answers.specs.declared.Checked.TheVariants.{Refused}
 use Rattle.answers.specs.Checking.{told}
-use Rattle.answers.specs.Laws.Checking.{tells_so}
+use Rattle.answers.proofs.Laws.Checking.{tells_so}
 use Rattle.language.specs.Word.{Bytes}
 use Rattle.records.specs.declared.record.Record.{Record}
 use Rattle.refusals.specs.declared.Standing.TheVariants.{Good}

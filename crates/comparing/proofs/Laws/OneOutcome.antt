@@ -3,7 +3,7 @@
 use Rattle.std.specs.Prelude.{ℕ, ◌*◌, List, ◌++◌, ◌≡◌, refl, length, take, drop}
 use Rattle.std.proofs.Common.{sym, ◌∙◌, ap, take_at, drop_at}
 use Rattle.answers.specs.declared.Comparison.{Comparison}
-use Rattle.answers.specs.Laws.Comparing.{told_apart}
+use Rattle.answers.proofs.Laws.Comparing.{told_apart}
 use Rattle.records.specs.declared.record.Record.{Record}
 use Rattle.records.specs.Record.{run_of}
 use Rattle.records.specs.Laws.Record.{length_run}

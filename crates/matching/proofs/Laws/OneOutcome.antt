@@ -3,7 +3,7 @@
 use Rattle.std.specs.Prelude.{ℕ, ◌*◌, List, ◌≡◌, length, take, drop}
 use Rattle.std.proofs.Common.{sym, ◌∙◌, ap, take_at, drop_at}
 use Rattle.answers.specs.declared.Match.{Match}
-use Rattle.answers.specs.Laws.Matching.{told_apart}
+use Rattle.answers.proofs.Laws.Matching.{told_apart}
 use Rattle.records.specs.declared.record.Record.{Record}
 use Rattle.records.specs.Record.{run_of}
 use Rattle.records.specs.Laws.Record.{length_run}

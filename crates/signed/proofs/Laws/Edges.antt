@@ -30,7 +30,7 @@ use Rattle.jobform.specs.Form.{Job, match_job, job_text, WellFormed, well_match}
 use Rattle.jobtext.specs.Answer.{answer_text, refused_text}
 use Rattle.jobtext.specs.Promise.{Answers, answered, refused_12}
 use Rattle.signed.specs.Samples.{◌+◌, ◌·◌, ◌*, a, b, card_of}
-use Rattle.signed.specs.Laws.Signed.{is_bytes, bytes_tested}
+use Rattle.signed.proofs.Laws.Signed.{is_bytes, bytes_tested}
 
 -- The 8 bytes of a record with small fields.
 abbrev bytes : ℕ → ℕ → ℕ → ℕ → ℕ → ℕ → List ℕ
