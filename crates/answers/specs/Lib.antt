@@ -5,3 +5,4 @@
 pub mod Matching
 pub mod Comparing
 pub mod Checking
+pub mod Laws

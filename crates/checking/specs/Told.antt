@@ -3,14 +3,14 @@ use Rattle.std.specs.Prelude.{ℕ, ◌/◌, ◌<◌, ◌≤◌, true, false, Lis
 use Rattle.std.specs.Bool.{beq}
 use Rattle.answers.specs.declared.Checked.{Checked}
 use Rattle.answers.specs.Checking.{at_marks, told}
-use Rattle.answers.proofs.Laws.Checking.{answer_told}
+use Rattle.answers.specs.Laws.Checking.{answer_told}
 use Rattle.records.specs.declared.record.Record.{Record}
 use Rattle.refusals.specs.declared.Standing.TheVariants.{Good}
 use Rattle.records.specs.Record.{child}
 use Rattle.cards.specs.Mark.{marked}
 use Rattle.cards.specs.Examine.{proof_card}
 use Rattle.store.specs.Room.{store_in, places_of, laid}
-use Rattle.store.proofs.Laws.Wall.{Kept}
+use Rattle.store.specs.Laws.Wall.{Kept}
 use Rattle.pairs.specs.declared.pair.Pair.{Pair}
 use Rattle.pairs.specs.Pair.{pair_record}
 use Rattle.pairs.specs.Room.{pairs_of, listed_pairs}

@@ -5,3 +5,4 @@ pub mod Room
 pub mod Making
 pub mod Told
 pub mod Good
+pub mod Laws

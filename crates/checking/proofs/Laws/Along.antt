@@ -8,7 +8,8 @@ use mathlib.Core.List.{List, [], ◌∷◌}
 use Rattle.std.proofs.Math.ListN.{length}
 use Rattle.language.specs.Word.{IsByte, Listed}
 use Rattle.records.specs.declared.record.Record.{Record}
-use Rattle.store.proofs.Laws.Wall.{Grows, grows_length, Ready, Kept, kept_refl, kept_trans}
+use Rattle.store.specs.Laws.Wall.{Grows, Ready, Kept}
+use Rattle.store.proofs.Laws.Wall.{grows_length, kept_refl, kept_trans}
 use Rattle.derivative.specs.Derivative.{Deriving, derived, stopped, derive}
 use Rattle.derivative.specs.Visits.{visits}
 use Rattle.derivative.proofs.Laws.Steps.{was_done, was_ended}

@@ -16,7 +16,8 @@ use Rattle.store.specs.Room.{store_in, places_of, laid, fresh_store}
 use Rattle.loading.specs.Loading.{load}
 use Rattle.store.specs.Good.{GoodStore}
 use Rattle.store.proofs.Laws.Room.{laid_laid}
-use Rattle.store.proofs.Laws.Wall.{grows_length, Kept}
+use Rattle.store.specs.Laws.Wall.{Kept}
+use Rattle.store.proofs.Laws.Wall.{grows_length}
 use Rattle.store.proofs.Laws.GoodRoom.{places_after, store_after}
 use Rattle.store.proofs.Laws.LegalRoom.{LegalRoom, legal_room}
 use Rattle.loading.proofs.Laws.FreshRoom.{grown_good}

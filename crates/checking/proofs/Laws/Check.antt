@@ -10,7 +10,7 @@ use Rattle.machine.specs.Laws.Check as machine
 use Rattle.machine.specs.Laws.Pass as pass
 use Rattle.machine.specs.Laws.PassAgain.{checking_has, AlsoChecking, also_accepted, also_rejected, check_again}
 use Rattle.records.specs.declared.record.Record.{Record}
-use Rattle.store.proofs.Laws.Wall.{Ready}
+use Rattle.store.specs.Laws.Wall.{Ready}
 use Rattle.derivative.proofs.Laws.Steps.{Why}
 use Rattle.pairs.specs.declared.pair.Pair.{Pair}
 use Rattle.searching.specs.Laws.StoreMachine.{Having, having, store_machine}

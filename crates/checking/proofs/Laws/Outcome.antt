@@ -16,7 +16,8 @@ use Rattle.cards.specs.Meaning.{card_pattern}
 use Rattle.records.specs.Laws.Record.{length_records}
 use Rattle.store.specs.Room.{fresh_store, wrong_room}
 use Rattle.loading.specs.Loading.{Loading, loaded, load}
-use Rattle.store.proofs.Laws.Wall.{Grows, grows_trans, grows_length, grows_language, Kept, kept_trans, Filled}
+use Rattle.store.specs.Laws.Wall.{Grows, Kept}
+use Rattle.store.proofs.Laws.Wall.{grows_trans, grows_length, grows_language, kept_trans, Filled}
 use Rattle.loading.proofs.Laws.Loading.{AllLoaded, LoadLaw, all_loaded, was_full, load_law}
 use Rattle.derivative.proofs.Laws.Steps.{Why, no_place, no_budget}
 use Rattle.pairs.specs.declared.pair.Pair.{Pair}

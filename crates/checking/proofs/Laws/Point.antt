@@ -10,7 +10,7 @@ use Rattle.machine.specs.Laws.Check as machine
 use Rattle.machine.specs.Laws.Meaning.{good_over}
 use Rattle.machine.specs.Laws.Pass as pass
 use Rattle.records.specs.declared.record.Record.{Record}
-use Rattle.store.proofs.Laws.Wall.{Ready}
+use Rattle.store.specs.Laws.Wall.{Ready}
 use Rattle.store.proofs.Laws.Languages.{language_at}
 use Rattle.pairs.specs.declared.pair.Pair.{Pair}
 use Rattle.pairs.specs.Pair.{pair_at, StandsAt}

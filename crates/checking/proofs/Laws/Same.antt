@@ -18,7 +18,8 @@ use Rattle.cards.specs.Meaning.{card_pattern}
 use Rattle.records.specs.Laws.Record.{length_run, records_of_run}
 use Rattle.store.specs.Room.{wrong_room}
 use Rattle.loading.specs.Loading.{load}
-use Rattle.store.proofs.Laws.Wall.{Grows, grows_length, Ready}
+use Rattle.store.specs.Laws.Wall.{Grows, Ready}
+use Rattle.store.proofs.Laws.Wall.{grows_length}
 use Rattle.store.proofs.Laws.LegalRoom.{legal_room}
 use Rattle.loading.proofs.Laws.OwnPlaces.{own_places, own_place, own_loaded}
 use Rattle.loading.proofs.Laws.OwnCard.{own_card_good}

@@ -14,7 +14,8 @@ use Rattle.cards.specs.Meaning.{card_pattern}
 use Rattle.store.specs.Room.{store_in, places_of, laid, fresh_store}
 use Rattle.store.specs.Good.{GoodStore}
 use Rattle.store.proofs.Laws.Room.{laid_laid}
-use Rattle.store.proofs.Laws.Wall.{grows_length, Kept}
+use Rattle.store.specs.Laws.Wall.{Kept}
+use Rattle.store.proofs.Laws.Wall.{grows_length}
 use Rattle.store.proofs.Laws.LegalRoom.{LegalRoom, legal_room}
 use Rattle.store.proofs.Laws.GoodRoom.{places_after, store_after}
 use Rattle.loading.proofs.Laws.FreshRoom.{grown_good}

@@ -14,7 +14,8 @@ use Rattle.records.specs.declared.record.Record.{Record}
 use Rattle.refusals.specs.declared.Standing.{Standing}
 use Rattle.refusals.specs.declared.Standing.TheVariants.{Good, Refused}
 use Rattle.store.specs.Room.{fresh_store}
-use Rattle.store.proofs.Laws.Wall.{Filled, Ready}
+use Rattle.store.specs.Laws.Wall.{Ready}
+use Rattle.store.proofs.Laws.Wall.{Filled}
 use Rattle.pairs.specs.declared.pair.Pair.{Pair}
 use Rattle.pairs.specs.Tried.{tried}
 use Rattle.pairs.specs.Opening.{Opening}

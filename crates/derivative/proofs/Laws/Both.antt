@@ -8,7 +8,8 @@ use Rattle.records.specs.declared.record.Record.{Record}
 use Rattle.store.specs.Room.{store_in, places_of, laid}
 use Rattle.store.specs.Good.{GoodStore}
 use Rattle.store.proofs.Laws.Room.{laid_laid}
-use Rattle.store.proofs.Laws.Wall.{grows_length, Ready, Kept, kept_refl, kept_trans}
+use Rattle.store.specs.Laws.Wall.{Ready, Kept}
+use Rattle.store.proofs.Laws.Wall.{grows_length, kept_refl, kept_trans}
 use Rattle.store.proofs.Laws.GoodRoom.{room_ready, places_after, store_after, good_after}
 use Rattle.derivative.specs.declared.Derived.{Derived}
 use Rattle.derivative.specs.declared.Derived.TheVariants.{At, Stopped}

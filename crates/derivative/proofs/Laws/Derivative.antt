@@ -21,7 +21,8 @@ use Rattle.cards.specs.Mark.{bit, marked}
 use Rattle.cards.specs.Meaning.{patterns, numbered}
 use Rattle.cards.specs.Standing.{LineOf, Line}
 use Rattle.cards.proofs.Laws.Line.{lower_left}
-use Rattle.store.proofs.Laws.Wall.{Grows, grows_trans, grows_length, grows_language, Ready, kept_refl, course_grows}
+use Rattle.store.specs.Laws.Wall.{Grows, Ready}
+use Rattle.store.proofs.Laws.Wall.{grows_trans, grows_length, grows_language, kept_refl, course_grows}
 use Rattle.store.proofs.Laws.Making.{language_of_record, language_at_0, language_at_1, marked_nullable}
 use Rattle.store.proofs.Laws.Languages.{language_at, operator_over}
 use Rattle.derivative.specs.Derivative.{Deriving, derived, stopped, price, and_then, making, choice_with, after_product, derive_choice, derive_sequence, derive_repeat, derive_record, derive_visited, derive_to, derive}

@@ -17,7 +17,8 @@ use Rattle.store.specs.Making.{Making, placed, full, make, after}
 use Rattle.store.specs.Told.{told_making}
 use Rattle.store.specs.Good.{GoodStore}
 use Rattle.store.proofs.Laws.Room.{laid_same, laid_laid, child_in_room}
-use Rattle.store.proofs.Laws.Wall.{grows_length, Ready, Kept, kept_refl, kept_trans, Makeable}
+use Rattle.store.specs.Laws.Wall.{Ready, Kept}
+use Rattle.store.proofs.Laws.Wall.{grows_length, kept_refl, kept_trans, Makeable}
 use Rattle.store.proofs.Laws.GoodRoom.{room_ready, length_store_in, places_after, store_after, good_after}
 use Rattle.derivative.specs.declared.Derived.{Derived}
 use Rattle.derivative.specs.declared.Derived.TheVariants.{At, Stopped}

@@ -11,7 +11,7 @@ use Rattle.cards.specs.Mark.{marked}
 use Rattle.cards.specs.Standing.{Line}
 use Rattle.cards.proofs.Laws.Line.{left_child, right_child}
 use Rattle.cards.proofs.Laws.InOrder.{length_in_order, value_kept, value_at, before_kept}
-use Rattle.store.proofs.Laws.Wall.{Grows}
+use Rattle.store.specs.Laws.Wall.{Grows}
 use Rattle.derivative.specs.Derivative.{price}
 use Rattle.derivative.specs.Visits.{Counted, child_visits, not_counted, counted_at, record_visits, visits}
 

@@ -13,7 +13,7 @@ use Rattle.cards.specs.Standing.{Obeys}
 use Rattle.store.specs.Room.{fresh_store}
 use Rattle.store.specs.Making.{placed, find_from, find, intern, make}
 use Rattle.store.specs.Good.{is_set, Good, IsSet, make_again}
-use Rattle.store.proofs.Laws.Wall.{Ready}
+use Rattle.store.specs.Laws.Wall.{Ready}
 
 -- What holds at 0 and at 1 holds at both places.
 both_places : (P : ℕ → Type 0) → P 0 → P 1 → (at : ℕ) → at < 2 → P at

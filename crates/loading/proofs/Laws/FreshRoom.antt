@@ -13,7 +13,8 @@ use Rattle.loading.specs.Loading.{Loading, load, after_loading}
 use Rattle.loading.specs.Told.{Enters}
 use Rattle.store.specs.Good.{GoodStore}
 use Rattle.store.proofs.Laws.Room.{store_of_laid, laid_laid, length_laid, bytes_laid}
-use Rattle.store.proofs.Laws.Wall.{grows_length, Ready, Kept}
+use Rattle.store.specs.Laws.Wall.{Ready, Kept}
+use Rattle.store.proofs.Laws.Wall.{grows_length}
 use Rattle.loading.proofs.Laws.Fresh.{fresh_good, fresh_ready}
 use Rattle.loading.proofs.Laws.Loading.{LoadLaw, all_loaded, was_full, load_law}
 use Rattle.store.proofs.Laws.GoodRoom.{good_fits, good_after}

@@ -26,7 +26,8 @@ use Rattle.loading.specs.Told.{told_loading, Mapped}
 use Rattle.store.specs.Good.{GoodStore}
 use Rattle.loading.specs.Told.{Loadable}
 use Rattle.store.proofs.Laws.Room.{laid_same, laid_laid}
-use Rattle.store.proofs.Laws.Wall.{grows_length, Kept, kept_refl, kept_trans, Makeable, MakeLaw, was_placed, was_full}
+use Rattle.store.specs.Laws.Wall.{Kept}
+use Rattle.store.proofs.Laws.Wall.{grows_length, kept_refl, kept_trans, Makeable, MakeLaw, was_placed, was_full}
 use Rattle.store.proofs.Laws.Making.{make_law}
 use Rattle.loading.proofs.Laws.Loading.{GoodCard, Standing, go_on, can, next_standing}
 use Rattle.store.proofs.Laws.GoodRoom.{room_ready, length_store_in, length_after, places_after, store_after, good_after}

@@ -19,7 +19,7 @@ use Rattle.cards.proofs.Laws.Line.{field_same, field_own}
 use Rattle.store.specs.Making.{placed, make}
 use Rattle.loading.specs.Loading.{loaded, child_place, make_loaded, load_after, load}
 use Rattle.store.specs.Good.{Good, make_again}
-use Rattle.store.proofs.Laws.Wall.{Grows}
+use Rattle.store.specs.Laws.Wall.{Grows}
 use Rattle.loading.proofs.Laws.Loading.{go_on}
 
 -- The numbers below n, ascending: each is its own place.

@@ -15,7 +15,7 @@ use Rattle.cards.specs.Examine.{pattern_card}
 use Rattle.store.specs.Room.{store_in, places_of, laid, fresh_store}
 use Rattle.store.specs.Good.{GoodStore}
 use Rattle.store.proofs.Laws.Room.{laid_laid}
-use Rattle.store.proofs.Laws.Wall.{Kept}
+use Rattle.store.specs.Laws.Wall.{Kept}
 use Rattle.store.proofs.Laws.GoodRoom.{places_after, store_after}
 use Rattle.store.proofs.Laws.LegalRoom.{LegalRoom, legal_room}
 use Rattle.loading.specs.declared.entering.Entered.{Entered}

@@ -7,7 +7,7 @@ use Rattle.language.proofs.Laws.Equality.{equal_refl, equal_trans}
 use Rattle.language.proofs.Laws.Quotient.{Quotient, Quotients}
 use Rattle.language.proofs.Laws.Derivative.{quotient_equal}
 use Rattle.records.specs.declared.record.Record.{Record}
-use Rattle.store.proofs.Laws.Wall.{Ready}
+use Rattle.store.specs.Laws.Wall.{Ready}
 use Rattle.store.proofs.Laws.Languages.{language_at}
 use Rattle.derivative.specs.Derivative.{Deriving, derived, stopped, and_then, derive}
 use Rattle.derivative.specs.Visits.{visits}

@@ -14,7 +14,8 @@ use Rattle.cards.specs.Mark.{marked}
 use Rattle.store.specs.Room.{store_in, places_of, laid}
 use Rattle.store.specs.Good.{GoodStore}
 use Rattle.store.proofs.Laws.Room.{laid_same, laid_laid}
-use Rattle.store.proofs.Laws.Wall.{grows_length, Kept, kept_refl, kept_trans}
+use Rattle.store.specs.Laws.Wall.{Kept}
+use Rattle.store.proofs.Laws.Wall.{grows_length, kept_refl, kept_trans}
 use Rattle.store.proofs.Laws.GoodRoom.{room_ready, length_store_in, length_after, places_after, store_after, good_after}
 use Rattle.derivative.specs.declared.Derived.{Derived}
 use Rattle.derivative.specs.declared.Derived.TheVariants.{At, Stopped}

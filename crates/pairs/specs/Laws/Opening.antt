@@ -13,7 +13,8 @@ use Rattle.cards.specs.Examine.{pattern_card}
 use Rattle.cards.specs.Meaning.{card_pattern}
 use Rattle.store.specs.Room.{fresh_store, wrong_room}
 use Rattle.loading.specs.Loading.{Loading, root}
-use Rattle.store.proofs.Laws.Wall.{grows_length, grows_language, Kept, kept_trans, Filled, outgrown_filled}
+use Rattle.store.specs.Laws.Wall.{Kept}
+use Rattle.store.proofs.Laws.Wall.{grows_length, grows_language, kept_trans, Filled, outgrown_filled}
 use Rattle.store.proofs.Laws.Languages.{language_at}
 use Rattle.store.proofs.Laws.LegalRoom.{legal_room}
 use Rattle.loading.proofs.Laws.FreshRoom.{fresh_is_ready}

@@ -18,7 +18,8 @@ use Rattle.loading.specs.Loading.{Loading, loaded, no_room, load, root}
 use Rattle.loading.specs.Told.{Enters}
 use Rattle.store.specs.Good.{GoodStore}
 use Rattle.store.proofs.Laws.Room.{laid_laid, store_of_laid}
-use Rattle.store.proofs.Laws.Wall.{grows_length, Kept}
+use Rattle.store.specs.Laws.Wall.{Kept}
+use Rattle.store.proofs.Laws.Wall.{grows_length}
 use Rattle.store.proofs.Laws.GoodRoom.{places_after, store_after}
 use Rattle.store.proofs.Laws.LegalRoom.{LegalRoom, legal_room}
 use Rattle.loading.proofs.Laws.Loading.{LoadLaw, all_loaded, was_full, load_law}

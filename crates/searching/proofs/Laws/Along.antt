@@ -12,7 +12,7 @@ use Rattle.machine.specs.Laws.Keeps.{extends_length}
 use Rattle.records.specs.declared.record.Record.{Record}
 use Rattle.records.specs.Record.{child}
 use Rattle.cards.specs.Mark.{marked}
-use Rattle.store.proofs.Laws.Wall.{Ready}
+use Rattle.store.specs.Laws.Wall.{Ready}
 use Rattle.derivative.specs.Derivative.{Deriving, derived, stopped as unfinished, derive}
 use Rattle.derivative.specs.Visits.{visits}
 use Rattle.derivative.proofs.Laws.Steps.{was_done, was_ended}

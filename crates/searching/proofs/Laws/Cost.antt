@@ -6,7 +6,7 @@ use Rattle.language.specs.Word.{IsByte, Listed}
 use Rattle.machine.specs.Laws.Price as price
 use Rattle.machine.specs.Laws.Cost as cost
 use Rattle.records.specs.declared.record.Record.{Record}
-use Rattle.store.proofs.Laws.Wall.{Ready}
+use Rattle.store.specs.Laws.Wall.{Ready}
 use Rattle.derivative.specs.Visits.{visits}
 use Rattle.pairs.specs.declared.pair.Pair.{Pair}
 use Rattle.searching.specs.Search.{same, search}

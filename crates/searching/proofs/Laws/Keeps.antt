@@ -7,7 +7,8 @@ use Rattle.machine.specs.Laws.Search.{Search as MachineSearch, Going as MachineG
 use Rattle.machine.specs.Laws.Keeps.{Extends, extends_refl, extends_trans}
 use Rattle.machine.specs.Laws.Keeps as machine
 use Rattle.records.specs.declared.record.Record.{Record}
-use Rattle.store.proofs.Laws.Wall.{Grows, grows_length, Ready, Kept, kept_refl, kept_trans}
+use Rattle.store.specs.Laws.Wall.{Grows, Ready, Kept}
+use Rattle.store.proofs.Laws.Wall.{grows_length, kept_refl, kept_trans}
 use Rattle.pairs.specs.declared.pair.Pair.{Pair}
 use Rattle.pairs.specs.Pair.{pair_at}
 use Rattle.searching.specs.Laws.Keeps.{Tabled}

@@ -10,7 +10,8 @@ use Rattle.records.specs.declared.record.Record.{Record}
 use Rattle.store.specs.Room.{store_in, places_of, laid}
 use Rattle.store.specs.Good.{GoodStore}
 use Rattle.store.proofs.Laws.Room.{laid_same, laid_laid}
-use Rattle.store.proofs.Laws.Wall.{grows_length, Ready}
+use Rattle.store.specs.Laws.Wall.{Ready}
+use Rattle.store.proofs.Laws.Wall.{grows_length}
 use Rattle.store.proofs.Laws.GoodRoom.{room_ready, length_store_in, length_after, store_after, good_after}
 use Rattle.pairs.specs.declared.pair.Pair.{Pair}
 use Rattle.pairs.specs.Pair.{pair_at}

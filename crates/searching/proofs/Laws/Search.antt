@@ -14,7 +14,7 @@ use Rattle.machine.specs.Laws.Ends.{Marked, Agreed}
 use Rattle.machine.specs.Laws.Ends as machine
 use Rattle.machine.specs.Laws.Meaning.{frontier_inside, same_good, same_over}
 use Rattle.records.specs.declared.record.Record.{Record}
-use Rattle.store.proofs.Laws.Wall.{Ready, Kept}
+use Rattle.store.specs.Laws.Wall.{Ready, Kept}
 use Rattle.store.proofs.Laws.Languages.{language_at}
 use Rattle.derivative.proofs.Laws.Steps.{no_place, no_budget}
 use Rattle.pairs.specs.declared.pair.Pair.{Pair}

@@ -15,7 +15,8 @@ use Rattle.records.specs.Record.{child}
 use Rattle.cards.specs.Mark.{marked}
 use Rattle.cards.specs.Meaning.{patterns, numbered}
 use Rattle.store.specs.Good.{Good}
-use Rattle.store.proofs.Laws.Wall.{Grows, grows_refl, grows_trans, grows_length, grows_language, Ready, replay, anew}
+use Rattle.store.specs.Laws.Wall.{Grows, Ready}
+use Rattle.store.proofs.Laws.Wall.{grows_refl, grows_trans, grows_length, grows_language, replay, anew}
 use Rattle.store.proofs.Laws.Making.{marked_nullable}
 use Rattle.store.proofs.Laws.Languages.{language_at}
 use Rattle.derivative.specs.Derivative.{Deriving, derived, stopped as unfinished, derive}

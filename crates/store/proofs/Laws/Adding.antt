@@ -5,7 +5,8 @@ use Rattle.std.proofs.Common.{arith, length-append}
 use Rattle.records.specs.declared.record.Record.{Record}
 use Rattle.records.specs.Kind.{kind_of}
 use Rattle.store.specs.Making.{Making, placed, full, after, intern, nothing_place, new_record, members, merged, put_before, built, set_of_both, make}
-use Rattle.store.proofs.Laws.Wall.{Grows, grows_refl, grows_trans, longer_by_one}
+use Rattle.store.specs.Laws.Wall.{Grows}
+use Rattle.store.proofs.Laws.Wall.{grows_refl, grows_trans, longer_by_one}
 use Rattle.store.proofs.Laws.Interning.{Way, found, written, stopped, way}
 use Rattle.store.proofs.Laws.Choosing.{built_none, built_more}
 use Rattle.store.proofs.Laws.Rules.{make_given, make_kept, make_merged, Says, gives, stays, merges, says}

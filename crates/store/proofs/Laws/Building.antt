@@ -12,7 +12,8 @@ use Rattle.store.specs.declared.finding.Found.TheVariants.{Absent}
 use Rattle.store.specs.Making.{Making, placed, full, after, find, new_record, is_kind, members, put_before, built}
 use Rattle.store.specs.Good.{is_set, SetKind, Good, Set, none, member}
 use Rattle.store.proofs.Laws.Finding.{found_within, found_holds, added_found}
-use Rattle.store.proofs.Laws.Wall.{Grows, grows_refl, grows_length, Ready, Kept, kept_refl, kept_trans, longer_grows, longer_by_one, Outgrown}
+use Rattle.store.specs.Laws.Wall.{Grows, Ready, Kept}
+use Rattle.store.proofs.Laws.Wall.{grows_refl, grows_length, kept_refl, kept_trans, longer_grows, longer_by_one, Outgrown}
 use Rattle.store.proofs.Laws.Members.{members_of_nothing, members_of_set, members_of_one, members_kept, grows_child, set_kept}
 use Rattle.store.proofs.Laws.Interning.{Way, found, written, stopped, way, intern_found, intern_written}
 use Rattle.store.proofs.Laws.Choosing.{built_none, built_more, put_before_some, set_of_member}

@@ -7,7 +7,7 @@ use Rattle.records.specs.Record.{child}
 use Rattle.cards.specs.Standing.{LineOf}
 use Rattle.store.specs.Making.{placed, intern, new_record, is_kind, members, entered, merged, put_before, built, set_of_both}
 use Rattle.store.specs.Good.{SetKind, Good, Set, member}
-use Rattle.store.proofs.Laws.Wall.{Grows}
+use Rattle.store.specs.Laws.Wall.{Grows}
 use Rattle.store.proofs.Laws.Rules.{two_children, set_line}
 use Rattle.store.proofs.Laws.Members.{members_of_nothing, members_of_set, members_of_one, members_kept, set_at}
 use Rattle.store.proofs.Laws.Merging.{merged_none, merged_more, first_before}

@@ -12,7 +12,7 @@ use Rattle.records.specs.Laws.Record.{Fitting, length_first}
 use Rattle.store.specs.Room.{store_in, places_of, laid}
 use Rattle.store.specs.Good.{Good, GoodStore}
 use Rattle.store.proofs.Laws.Room.{store_of_laid, length_laid, bytes_laid}
-use Rattle.store.proofs.Laws.Wall.{Ready, Kept}
+use Rattle.store.specs.Laws.Wall.{Ready, Kept}
 
 bit_small : (b : Bool) → bit b < 256
 bit_small true = omega arith

@@ -4,7 +4,8 @@ use Rattle.std.specs.Prelude.{ℕ, ◌<◌, List, [], ◌∷◌, ◌++◌, ◌�
 use Rattle.records.specs.declared.record.Record.{Record}
 use Rattle.store.specs.Making.{Making, placed, full, members, make}
 use Rattle.store.specs.Good.{Good}
-use Rattle.store.proofs.Laws.Wall.{Grows, Ready, Kept, Filled}
+use Rattle.store.specs.Laws.Wall.{Grows, Ready, Kept}
+use Rattle.store.proofs.Laws.Wall.{Filled}
 use Rattle.store.proofs.Laws.Sets.{SameMembers}
 
 -- Places grouped: one alone, or two groups to be joined.

@@ -18,7 +18,7 @@ use Rattle.store.specs.declared.finding.Found.TheVariants.{Absent}
 use Rattle.store.specs.Making.{placed, find, intern, new_record}
 use Rattle.store.specs.Good.{is_set, Good, Set, IsSet, make_again}
 use Rattle.store.proofs.Laws.Finding.{absent_nowhere}
-use Rattle.store.proofs.Laws.Wall.{Grows}
+use Rattle.store.specs.Laws.Wall.{Grows}
 use Rattle.store.proofs.Laws.Members.{child_kept, members_kept, set_kept}
 use Rattle.store.proofs.Laws.Interning.{intern_found, grows_found, fresh_kept, own_record, own_found, marked_nullable}
 use Rattle.store.proofs.Laws.Rules.{make_given, make_kept, make_merged, Says, gives, stays, merges, says}

@@ -15,7 +15,7 @@ use Rattle.store.specs.declared.finding.Found.TheVariants.{At, Absent}
 use Rattle.store.specs.Making.{Making, placed, full, find, use_or_write, intern, new_record}
 use Rattle.store.specs.Good.{Good}
 use Rattle.store.proofs.Laws.Finding.{found_within, found_holds, found_kept, absent_nowhere}
-use Rattle.store.proofs.Laws.Wall.{Grows}
+use Rattle.store.specs.Laws.Wall.{Grows}
 use Rattle.store.proofs.Laws.Members.{grows_child}
 
 -- What becomes of a record, and why.

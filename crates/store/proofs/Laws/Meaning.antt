@@ -15,7 +15,8 @@ use Rattle.cards.proofs.Laws.Line.{lower_right}
 use Rattle.cards.proofs.Laws.Meaning.{pattern_of_record}
 use Rattle.store.specs.Making.{is_kind, members, merged}
 use Rattle.store.specs.Good.{SetKind, Good}
-use Rattle.store.proofs.Laws.Wall.{Grows, grows_length, grows_language}
+use Rattle.store.specs.Laws.Wall.{Grows}
+use Rattle.store.proofs.Laws.Wall.{grows_length, grows_language}
 use Rattle.store.proofs.Laws.Languages.{language_at, operator_over, language_of_operator, equal_of_path}
 use Rattle.store.proofs.Laws.Members.{members_of_nothing, members_of_set, members_of_one, members_kept}
 use Rattle.store.proofs.Laws.Sets.{merged_from, merged_to}

@@ -11,7 +11,8 @@ use Rattle.records.specs.Kind.{kind_of}
 use Rattle.cards.proofs.Laws.Line.{lower_right}
 use Rattle.store.specs.Making.{is_kind, first, behind, members_to, members}
 use Rattle.store.specs.Good.{is_set, SetKind, Good, Set, none, member, IsSet}
-use Rattle.store.proofs.Laws.Wall.{Grows, grows_length}
+use Rattle.store.specs.Laws.Wall.{Grows}
+use Rattle.store.proofs.Laws.Wall.{grows_length}
 
 -- A record stays as it is when records are added.
 pub child_kept : (store more : List Record) (at : ℕ) → at < length store → child (store ++ more) at ≡ child store at

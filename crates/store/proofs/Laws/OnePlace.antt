@@ -11,7 +11,8 @@ use Rattle.records.specs.declared.record.Record.{Record}
 use Rattle.records.specs.Kind.{choice_kind}
 use Rattle.store.specs.Making.{Making, placed, members, merged, built}
 use Rattle.store.specs.Good.{SetKind, Good, Set}
-use Rattle.store.proofs.Laws.Wall.{Grows, grows_refl, grows_trans, grows_length, Ready, Kept, kept_refl, kept_trans}
+use Rattle.store.specs.Laws.Wall.{Grows, Ready, Kept}
+use Rattle.store.proofs.Laws.Wall.{grows_refl, grows_trans, grows_length, kept_refl, kept_trans}
 use Rattle.store.proofs.Laws.Members.{members_set, members_kept}
 use Rattle.store.proofs.Laws.Merging.{merged_set}
 use Rattle.store.proofs.Laws.Sets.{SameMembers, merged_from, merged_to, one_set}

@@ -12,13 +12,8 @@ use Rattle.records.specs.declared.record.Record.{Record}
 use Rattle.records.specs.Kind.{kind_of}
 use Rattle.cards.specs.Standing.{Line}
 use Rattle.store.specs.Making.{Making, placed, full, new_record, make, after}
-use Rattle.store.specs.Good.{Good}
+use Rattle.store.specs.Laws.Wall.{Grows, Ready, Kept}
 use Rattle.store.proofs.Laws.Languages.{language_at, operator_over, language_kept}
-
--- The second store is the first with records added at the end.
-pub record Grows (store store' : List Record) : Type 0 where
-  pub more : List Record
-  pub is : store' ≡ store ++ more
 
 pub grows_refl : (store : List Record) → Grows store store
 grows_refl store = record { more = []; is = sym (append-nil store) }
@@ -44,16 +39,6 @@ longer_grows h g = record { grows = grows_trans h.grows g; longer = let l = h.lo
 
 pub longer_by_one : (store : List Record) (r : Record) → Longer store (store ++ r ∷ [])
 longer_by_one store r = record { grows = record { more = r ∷ []; is = refl }; longer = omega (arith, length-append store (r ∷ [])) }
-
--- A store that can be worked on in a room of so many places.
-pub record Ready (room : ℕ) (store : List Record) : Type 0 where
-  pub within : length store ≤ room
-  pub good : Good store
-
--- What a step leaves, where it stops too.
-pub record Kept (room : ℕ) (store store' : List Record) : Type 0 where
-  pub grows : Grows store store'
-  pub ready : Ready room store'
 
 pub kept_refl : {room : ℕ} {store : List Record} → Ready room store → Kept room store store
 kept_refl {store = store} r = record { grows = grows_refl store; ready = r }
