@@ -1,5 +1,5 @@
-// What a program needs that answers standard input line by line: the lines, what a line of a form says, the rooms that it lends, and writing
-// the answers.
+// What a program needs that answers its input line by line: the lines, what a line of a form says, the rooms that it lends, and writing the
+// answers.
 #![tactic(auto)]
 
 pub mod form;

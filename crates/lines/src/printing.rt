@@ -1,52 +1,54 @@
-// Writing to standard output: words, keys with their values, bytes in hex, and the end of a line's answer.
+// Writing an answer: words, keys with their values, bytes in hex, and the end of a line's answer.
 ghost use Rattle.std.specs.Prelude.{◌<◌, ◌≤◌};
 
 use crate::parts::part;
-use libc::STDOUT_FILENO;
+use std::io;
+use std::io::Write;
 use text::writing::put_hex;
 
 // The bytes whose digits are written at once.
 const BLOCK: usize = 2048;
 
 // Words as they stand.
-pub fn words(shown: &[u8]) {
-    io::write_all(STDOUT_FILENO, shown);
+pub fn words<W: Write>(output: &mut W, shown: &[u8]) -> io::Result<()> {
+    output.write_all(shown)
 }
 
 // A key and its number.
-pub fn number(key: &[u8], value: u64) {
-    words(key);
-    io::print_decimal(STDOUT_FILENO, value);
+pub fn number<W: Write>(output: &mut W, key: &[u8], value: u64) -> io::Result<()> {
+    words(output, key)?;
+    write!(output, "{value}")
 }
 
 // A key and its bytes.
-pub fn bytes(key: &[u8], shown: &[u8]) {
-    words(key);
-    hex(shown);
+pub fn bytes<W: Write>(output: &mut W, key: &[u8], shown: &[u8]) -> io::Result<()> {
+    words(output, key)?;
+    hex(output, shown)
 }
 
 // A key and its one byte.
-pub fn byte(key: &[u8], shown: u8) {
+pub fn byte<W: Write>(output: &mut W, key: &[u8], shown: u8) -> io::Result<()> {
     let one = [shown; 1];
-    bytes(key, &one);
+    bytes(output, key, &one)
 }
 
 // Bytes as lower-case hexadecimal digits.
-pub fn hex(shown: &[u8]) {
+pub fn hex<W: Write>(output: &mut W, shown: &[u8]) -> io::Result<()> {
     let mut at = 0;
     while at < shown.len() {
         let next = block_end(shown.len(), at);
-        block(part(shown, at, next));
+        block(output, part(shown, at, next))?;
         at = next;
     }
+    Ok(())
 }
 
 // Ends the answer to a line, which is `bad line` where the line was not answered.
-pub fn end(answered: bool) {
+pub fn end<W: Write>(output: &mut W, answered: bool) -> io::Result<()> {
     if !answered {
-        words(b"bad line");
+        words(output, b"bad line")?;
     }
-    words(b"\n");
+    words(output, b"\n")
 }
 
 // Where the block that begins at a place ends.
@@ -63,10 +65,11 @@ fn block_end(length: usize, at: usize) -> usize
 }
 
 // Writes the digits of no more bytes than a block has.
-fn block(shown: &[u8]) {
+fn block<W: Write>(output: &mut W, shown: &[u8]) -> io::Result<()> {
     let mut digits = [0u8; 2 * BLOCK];
     if shown.len() <= BLOCK {
         let length = put_hex(&mut digits, 0, shown);
-        words(part(&digits, 0, length));
+        return words(output, part(&digits, 0, length));
     }
+    Ok(())
 }

@@ -1,5 +1,6 @@
-// Reading standard input to its end, line by line.
-use libc::STDIN_FILENO;
+// Reading what comes in to its end, line by line.
+use std::io;
+use std::io::Read;
 
 const LINE_FEED: u8 = 10;
 
@@ -34,27 +35,37 @@ pub fn begin() -> Reading {
 
 // Reads the next line, without its line feed. Where the input ends there is no whole line, unless some bytes stand there with no line feed.
 // A loop has to end, and nothing says that a line does: so the turns are counted down from a number that no run uses up.
-pub fn read_line(line: &mut [u8; KEPT], chunk: &mut [u8; CHUNK], before: Reading) -> Reading {
+pub fn read_line<R: Read>(
+    input: &mut R,
+    line: &mut [u8; KEPT],
+    chunk: &mut [u8; CHUNK],
+    before: Reading,
+) -> io::Result<Reading> {
     let mut reading = before;
     reading.length = 0;
     reading.whole = false;
     let mut turns = u64::MAX;
     while turns > 0 && !reading.whole && !reading.ended {
-        reading = step(line, chunk, reading);
+        reading = step(input, line, chunk, reading)?;
         turns -= 1;
     }
-    reading
+    Ok(reading)
 }
 
 // Keeps the next byte of the chunk, or reads the next chunk where no byte is left.
-fn step(line: &mut [u8; KEPT], chunk: &mut [u8; CHUNK], reading: Reading) -> Reading {
+fn step<R: Read>(
+    input: &mut R,
+    line: &mut [u8; KEPT],
+    chunk: &mut [u8; CHUNK],
+    reading: Reading,
+) -> io::Result<Reading> {
     let from = reading.from;
     if from < reading.to && from < CHUNK {
         let mut next = keep(line, reading, chunk[from]);
         next.from = from + 1;
-        next
+        Ok(next)
     } else {
-        fill(chunk, reading)
+        fill(input, chunk, reading)
     }
 }
 
@@ -72,14 +83,14 @@ fn keep(line: &mut [u8; KEPT], reading: Reading, byte: u8) -> Reading {
 }
 
 // Reads once. Where nothing came the input has ended, and a line with no line feed with it.
-fn fill(chunk: &mut [u8; CHUNK], reading: Reading) -> Reading {
-    let got = libc::read(STDIN_FILENO, chunk);
+fn fill<R: Read>(input: &mut R, chunk: &mut [u8; CHUNK], reading: Reading) -> io::Result<Reading> {
+    let count = input.read(chunk)?;
     let mut next = reading;
     next.from = 0;
-    next.to = io::count(got, chunk);
-    if next.to == 0 {
+    next.to = count;
+    if count == 0 {
         next.whole = 0 < reading.length;
         next.ended = true;
     }
-    next
+    Ok(next)
 }
