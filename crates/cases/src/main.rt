@@ -2,6 +2,9 @@
 // in its rooms, and for each job its answer's text. A line that is of no form is answered `bad line`.
 #![tactic(auto)]
 
+use std::io;
+use std::io::BufWriter;
+
 mod answering;
 mod checking_line;
 mod comparing_line;
@@ -9,6 +12,8 @@ mod job_line;
 mod matching_line;
 mod printing;
 
-fn main() {
-    answering::answer_all();
+fn main(rt: HostRuntime) -> io::Result<()> {
+    let mut input = rt.stdin();
+    let mut output = BufWriter::new(rt.alloc(), rt.stdout())?;
+    answering::answer_all(&mut input, &mut output)
 }
