@@ -1,5 +1,9 @@
-// Writing an answer: words, keys with their values, bytes in hex, and the end of a line's answer.
-ghost use Rattle.std.specs.Prelude.{◌<◌, ◌≤◌};
+// Writing an answer: words, keys with their values, bytes in hex, and the end of a line's answer. Where it is known what the writer holds, each
+// says what is added to that.
+ghost use Rattle.std.specs.Prelude.{[], ◌∷◌, ◌++◌, ◌+◌, ◌<◌, ◌≤◌, length, if◌then◌else◌, OnOk, codes};
+ghost use Rattle.std.specs.Fmt.{decimal};
+ghost use Rattle.std.specs.Io.KnownBytes.{Appends};
+ghost use Rattle.text.specs.Digits.{hex};
 
 use crate::parts::part;
 use std::io;
@@ -10,30 +14,44 @@ use text::writing::put_hex;
 const BLOCK: usize = 2048;
 
 // Words as they stand.
-pub fn words<W: Write>(output: &mut W, shown: &[u8]) -> io::Result<()> {
+pub fn words<W: Write>(output: &mut W, shown: &[u8]) -> io::Result<()>
+    ensures { OnOk result (Appends (W.contents output.old) (W.contents output.new) shown.now) }
+{
     output.write_all(shown)
 }
 
 // A key and its number.
-pub fn number<W: Write>(output: &mut W, key: &[u8], value: u64) -> io::Result<()> {
+pub fn number<W: Write>(output: &mut W, key: &[u8], value: u64) -> io::Result<()>
+    ensures { OnOk result
+        (Appends (W.contents output.old) (W.contents output.new) (key.now ++ decimal value)) }
+{
     words(output, key)?;
     write!(output, "{value}")
 }
 
 // A key and its bytes.
-pub fn bytes<W: Write>(output: &mut W, key: &[u8], shown: &[u8]) -> io::Result<()> {
+pub fn bytes<W: Write>(output: &mut W, key: &[u8], shown: &[u8]) -> io::Result<()>
+    ensures { OnOk result
+        (Appends (W.contents output.old) (W.contents output.new) (key.now ++ hex shown.now)) }
+{
     words(output, key)?;
     hex(output, shown)
 }
 
 // A key and its one byte.
-pub fn byte<W: Write>(output: &mut W, key: &[u8], shown: u8) -> io::Result<()> {
+pub fn byte<W: Write>(output: &mut W, key: &[u8], shown: u8) -> io::Result<()>
+    ensures { OnOk result
+        (Appends (W.contents output.old) (W.contents output.new) (key.now ++ hex (shown ∷ []))) }
+{
     let one = [shown; 1];
     bytes(output, key, &one)
 }
 
 // Bytes as lower-case hexadecimal digits.
-pub fn hex<W: Write>(output: &mut W, shown: &[u8]) -> io::Result<()> {
+pub fn hex<W: Write>(output: &mut W, shown: &[u8]) -> io::Result<()>
+    ensures { OnOk result
+        (Appends (W.contents output.old) (W.contents output.new) (hex shown.now)) }
+{
     let mut at = 0;
     while at < shown.len() {
         let next = block_end(shown.len(), at);
@@ -44,7 +62,11 @@ pub fn hex<W: Write>(output: &mut W, shown: &[u8]) -> io::Result<()> {
 }
 
 // Ends the answer to a line, which is `bad line` where the line was not answered.
-pub fn end<W: Write>(output: &mut W, answered: bool) -> io::Result<()> {
+pub fn end<W: Write>(output: &mut W, answered: bool) -> io::Result<()>
+    ensures { OnOk result
+        (Appends (W.contents output.old) (W.contents output.new)
+        (if answered then codes "\n" else codes "bad line\n")) }
+{
     if !answered {
         words(output, b"bad line")?;
     }
@@ -56,6 +78,7 @@ fn block_end(length: usize, at: usize) -> usize
     requires { at < length }
     ensures lower_bound { at < result }
     ensures upper_bound { result ≤ length }
+    ensures block_bound { result ≤ at + BLOCK }
 {
     if length - at <= BLOCK {
         length
@@ -65,7 +88,10 @@ fn block_end(length: usize, at: usize) -> usize
 }
 
 // Writes the digits of no more bytes than a block has.
-fn block<W: Write>(output: &mut W, shown: &[u8]) -> io::Result<()> {
+fn block<W: Write>(output: &mut W, shown: &[u8]) -> io::Result<()>
+    ensures { length shown.now ≤ BLOCK → OnOk result
+        (Appends (W.contents output.old) (W.contents output.new) (hex shown.now)) }
+{
     let mut digits = [0u8; 2 * BLOCK];
     if shown.len() <= BLOCK {
         let length = put_hex(&mut digits, 0, shown);
