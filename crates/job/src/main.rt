@@ -8,26 +8,31 @@
 // - 11: the program never checks.
 #![tactic(auto)]
 
+ghost use Rattle.std.specs.Prelude.{OnOk, IfSome};
+ghost use Rattle.job.specs.Promise.{WritesAnswer};
+
 use jobtext::MOST_ANSWER;
-use libc::{STDIN_FILENO, STDOUT_FILENO};
 use refusals::limits::MOST_JOB;
+use std::alloc::Global;
+use std::io;
+use std::io::{Read, Write};
 
 // The bytes that are read: one more than the longest job has, so that a longer one is known, and no more, so that the program ends on
 // endless input too.
-const MOST_READ: usize = MOST_JOB + 1;
+const MOST_READ: u64 = MOST_JOB as u64 + 1;
 
-fn main() {
-    let mut job = [0u8; MOST_READ];
-    let count = io::read_full(STDIN_FILENO, &mut job);
-    let mut out = [0u8; MOST_ANSWER];
-    let length = jobtext::answer(&job[..count], &mut out);
-    write(&out, length);
+fn main(rt: HostRuntime) -> io::Result<()> {
+    answer_job(rt.alloc(), &mut rt.stdin(), &mut rt.stdout())
 }
 
-// Writes the answer that stands at the start of a room.
-fn write(out: &[u8; MOST_ANSWER], length: usize) {
-    let room: &[u8] = out;
-    if length <= room.len() {
-        io::write_all(STDOUT_FILENO, &room[0..length]);
-    }
+// Reads a job and writes its answer.
+fn answer_job<R: Read, W: Write>(alloc: Global, input: &mut R, output: &mut W) -> io::Result<()>
+    ensures { OnOk result (IfSome (R.remaining input.old)
+        (WritesAnswer (W.contents output.old) (W.contents output.new))) }
+{
+    let mut job = Vec::new(alloc);
+    input.take(MOST_READ).read_to_end(&mut job)?;
+    let mut out = [0u8; MOST_ANSWER];
+    let length = jobtext::answer(job.as_slice(), &mut out);
+    output.write_all(&out[..length])
 }

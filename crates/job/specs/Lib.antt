@@ -1,0 +1,2 @@
+-- What the program promises of what it reads and writes.
+pub mod Promise
