@@ -1,8 +1,7 @@
 -- What the program promises where the bytes that come in, and what the output holds, are known: the answer to all that comes in is added to the
 -- output, whole, and nothing else. That is the answer to its first 65,537 bytes too, since a text of more than 65,536 is no job, and no more
 -- is read.
-use Rattle.std.specs.Prelude.{ℕ, suc, List, ◌≤◌, length}
-use Rattle.std.specs.Option.{Option}
+use Rattle.std.specs.Prelude.{ℕ, List, Option}
 use Rattle.std.specs.Io.KnownBytes.{Appends}
 use Rattle.jobtext.specs.Promise.{Answers}
 
