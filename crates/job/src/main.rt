@@ -8,31 +8,51 @@
 // - 11: the program never checks.
 #![tactic(auto)]
 
-ghost use Rattle.std.specs.Prelude.{OnOk, IfSome};
-ghost use Rattle.job.specs.Promise.{WritesAnswer};
+ghost use Rattle.std.specs.Prelude.{◌<◌, ◌≤◌, length, take, OnOk, IfOk, IfSome};
+ghost use Rattle.std.specs.Io.KnownBytes.{Consumes, IsAtEnd};
+ghost use Rattle.job.specs.Promise.{ReadsJob, WritesAnswer};
 
 use jobtext::MOST_ANSWER;
 use refusals::limits::MOST_JOB;
-use std::alloc::Global;
 use std::io;
 use std::io::{Read, Write};
 
 // The bytes that are read: one more than the longest job has, so that a longer one is known, and no more, so that the program ends on
 // endless input too.
-const MOST_READ: u64 = MOST_JOB as u64 + 1;
+const MOST_READ: usize = MOST_JOB + 1;
 
 fn main(rt: HostRuntime) -> io::Result<()> {
-    answer_job(rt.alloc(), &mut rt.stdin(), &mut rt.stdout())
+    answer_job(&mut rt.stdin(), &mut rt.stdout())
 }
 
 // Reads a job and writes its answer.
-fn answer_job<R: Read, W: Write>(alloc: Global, input: &mut R, output: &mut W) -> io::Result<()>
-    ensures { OnOk result (IfSome (R.remaining input.old)
+fn answer_job<R: Read, W: Write>(input: &mut R, output: &mut W) -> io::Result<()>
+    ensures read { OnOk result (ReadsJob (R.remaining input.old) (R.remaining input.new)) }
+    ensures written { OnOk result (IfSome (R.remaining input.old)
         (WritesAnswer (W.contents output.old) (W.contents output.new))) }
 {
-    let mut job = Vec::new(alloc);
-    input.take(MOST_READ).read_to_end(&mut job)?;
+    let mut job = [0u8; MOST_READ];
+    let count = read_full(input, &mut job)?;
     let mut out = [0u8; MOST_ANSWER];
-    let length = jobtext::answer(job.as_slice(), &mut out);
+    let length = jobtext::answer(&job[..count], &mut out);
     output.write_all(&out[..length])
+}
+
+// Reads until the room is full or the input ends, and tells how many bytes came.
+fn read_full<R: Read>(input: &mut R, room: &mut [u8]) -> io::Result<usize>
+    ensures in_room { IfOk result (λ count. count ≤ length room.new) }
+    ensures bytes { IfOk result (λ count.
+        Consumes (R.remaining input.old) (R.remaining input.new) (take count room.new)) }
+    ensures end { IfOk result (λ count.
+        count < length room.new → IsAtEnd (R.remaining input.new)) }
+{
+    let mut count = 0;
+    while count < room.len() {
+        let more = input.read(&mut room[count..])?;
+        if more == 0 {
+            return Ok(count);
+        }
+        count += more;
+    }
+    Ok(count)
 }
