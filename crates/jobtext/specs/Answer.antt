@@ -2,7 +2,6 @@
 -- `visits=`, each in a line. ""Different" prints verdict, `word=` in lower-case hex, `only=left` or `only=right`, then the three counts. A match
 -- prints `verdict=yes` or `no`, places, visits. A refusal prints `verdict=refused` and `reason=` only." Numbers are decimal.
 use Rattle.std.specs.Prelude.{ℕ, Bool, true, false, List, ◌++◌}
-use Rattle.refusals.specs.Numbers.{short_word_room}
 use Rattle.refusals.specs.Limits.{most_room, most_pair_room, most_pairs}
 use Rattle.matching.specs.Fits.{fits_outcome}
 use Rattle.answers.specs.Matching.{Says, yes, no, refused, Told as ToldOfMatch}

@@ -13,7 +13,7 @@ use Rattle.text.specs.declared.named.HexLine.{HexLine}
 use Rattle.text.specs.declared.named.HexLine.TheVariants.{Read as ReadHexLine, Bad as BadHexLine}
 use Rattle.text.specs.declared.named.NumberLine.{NumberLine}
 use Rattle.text.specs.declared.named.NumberLine.TheVariants.{Read as ReadNumberLine, Bad as BadNumberLine}
-use Rattle.text.specs.Ascii.{line_feed, line}
+use Rattle.text.specs.Ascii.{line}
 use Rattle.text.specs.Digits.{hex_digit, hex, decimal}
 
 -- Hex digits.

@@ -1,10 +1,10 @@
 -- The paper's number and values tell any two answers of checking apart: each answer can be had back from them, and they from it.
-use Rattle.std.specs.Prelude.{ℕ, ◌≡◌, refl}
+use Rattle.std.specs.Prelude.{◌≡◌, refl}
 use Rattle.std.proofs.Common.{sym, ◌∙◌, ap}
 use Rattle.answers.specs.declared.Checked.{Checked}
 use Rattle.answers.specs.declared.Checked.TheVariants.{Accepted, OpeningMissing, MarksDiffer, NotListed, Refused}
-use Rattle.answers.specs.Laws.Checking.{rejection_at, answer_of, answer_told}
-use Rattle.answers.specs.Checking.{Point, at_opening, at_marks, at_letter, Verdict, is_accepted, is_rejected, refused_by, Told, told}
+use Rattle.answers.specs.Laws.Checking.{answer_of, answer_told}
+use Rattle.answers.specs.Checking.{at_opening, at_marks, at_letter, Verdict, is_accepted, is_rejected, refused_by, Told, told}
 
 had_back : (a : Checked) → answer_told (told a) ≡ a
 had_back (Accepted places visits) = refl

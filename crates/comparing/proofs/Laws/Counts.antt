@@ -1,7 +1,7 @@
 -- What a comparison tells: places are the records standing and pairs the pairs placed, never more than their rooms have; visits are never more
 -- than the budget; at 7 the places fill the work room, at 8 the visits are the budget, at 9 the pairs fill the pair room. It holds because a
 -- call comes to its outcome in one of three ways: refused at once, a full room in opening, or a search.
-use Rattle.std.specs.Prelude.{ℕ, ◌-◌, ◌/◌, ◌<◌, ◌≤◌, List, [], ◌≡◌, length}
+use Rattle.std.specs.Prelude.{ℕ, ◌/◌, ◌<◌, ◌≤◌, List, [], ◌≡◌, length}
 use Rattle.std.proofs.Common.{arith}
 use Rattle.std.proofs.Math.Path.{refl}
 use Rattle.language.specs.Word.{Bytes, IsByte, Listed}

@@ -1,5 +1,4 @@
 -- `compare_opened` tells the end that the search came to; the word of "different" is read off the table that stands in the pair room.
-use borrow.Author.Rules.{rules}
 use Rattle.comparing.proofs.Laws.Ending.{searched, same_left, told_same, stopped_left, told_stopped, different_left, can_read_off, told_different, told_short}
 use Rattle.comparing.proofs.compare_opened.Goals as goal
 

@@ -1,11 +1,7 @@
 -- The functions of the derivative answer as the definitions do: they take the definitions' own steps, each from the store that the step
 -- before it left in the room. The measure is eight times the place that is still to derive, the larger of two, and more the further the
 -- function stands from deriving it: a child stands lower than its parent. A right part that is not asked for counts nothing.
-use Prim.Native.Nat.{ℕ, ◌+◌, ◌*◌, ◌-◌, ◌<◌}
 use native.Mathlib.Omega.{arith}
-use mathlib.Core.Bool.{cond}
-use borrow.Author.Rules.{rules}
-use borrow.Author.Tests.{not-true, not-false}
 use Rattle.derivative.proofs.Laws.Rooms.{first_next, parts_stopped, right_stopped, right_made, parts_derived, product_next, product_full, product_placed, right_unasked, unpaid, parts_lower, visited_leaf, visited_parts}
 use Rattle.derivative.proofs.+deriving.Goals as goal
 

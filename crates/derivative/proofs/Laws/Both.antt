@@ -1,6 +1,6 @@
 -- Deriving two places by one letter, in a room: what the code answers and the room that it leaves are what the caller goes on from.
-use Rattle.std.specs.Prelude.{ℕ, suc, ◌<◌, ◌≤◌, List, ◌≡◌, refl}
-use Rattle.std.proofs.Common.{le_refl, arith, sym, ◌∙◌, ap₂}
+use Rattle.std.specs.Prelude.{ℕ, suc, ◌<◌, ◌≤◌, List, ◌≡◌}
+use Rattle.std.proofs.Common.{le_refl, arith, ◌∙◌}
 use Rattle.std.proofs.Math.Path.{ap}
 use Rattle.std.proofs.Math.ListN.{length}
 use Rattle.language.specs.Word.{IsByte}
@@ -10,17 +10,17 @@ use Rattle.store.specs.Good.{GoodStore}
 use Rattle.store.proofs.Laws.Room.{laid_laid}
 use Rattle.store.specs.Laws.Wall.{Ready, Kept}
 use Rattle.store.proofs.Laws.Wall.{grows_length, kept_refl, kept_trans}
-use Rattle.store.proofs.Laws.GoodRoom.{room_ready, places_after, store_after, good_after}
+use Rattle.store.proofs.Laws.GoodRoom.{room_ready, places_after}
 use Rattle.derivative.specs.declared.Derived.{Derived}
 use Rattle.derivative.specs.declared.Derived.TheVariants.{At, Stopped}
 use Rattle.derivative.specs.declared.both.Both.{Both}
 use Rattle.derivative.specs.declared.both.Both.TheVariants.{At as BothAt, Stopped as OneStopped}
 use Rattle.derivative.specs.Derivative.{Deriving, derived, stopped, derive_to, derive}
 use Rattle.derivative.specs.Both.{DerivingBoth, both_derived, one_stopped, right_derived, left_derived, derive_both}
-use Rattle.derivative.specs.Told.{told_deriving, Comes, told_both, after_both, BothCome}
+use Rattle.derivative.specs.Told.{Comes, after_both, BothCome}
 use Rattle.derivative.proofs.Laws.Steps.{StepLaw, was_done, was_ended}
 use Rattle.derivative.proofs.Laws.Derivative.{derive_law}
-use Rattle.derivative.proofs.Laws.Rooms.{Keeps, step_keeps, not_both, Stands, stands, Next, in_store, next, store_then}
+use Rattle.derivative.proofs.Laws.Rooms.{step_keeps, not_both, Stands, stands, in_store, next, store_then}
 
 -- What comes at any depth above the place comes of the derivative.
 pub at_depth : (room : List ℕ) (places place letter budget : ℕ) {answer : Derived} {exit : List ℕ}

@@ -24,7 +24,7 @@ use Rattle.derivative.specs.declared.Derived.{Derived}
 use Rattle.derivative.specs.declared.Derived.TheVariants.{At, Stopped}
 use Rattle.derivative.specs.declared.Visited.{Visited}
 use Rattle.derivative.specs.declared.Visited.TheVariants.{Leaf, Parts}
-use Rattle.derivative.specs.Derivative.{Deriving, derived, stopped, price, and_then, of_making, making, choice_with, after_product, derive_record, derive_to}
+use Rattle.derivative.specs.Derivative.{Deriving, derived, stopped, price, and_then, of_making, making, after_product, derive_record, derive_to}
 use Rattle.derivative.specs.Parts.{asks, asked, product_of, with_left, derive_parts, derive_asked}
 use Rattle.derivative.specs.Told.{after_deriving, Comes, of_made}
 use Rattle.derivative.proofs.Laws.Steps.{Step, StepLaw, was_done, was_ended, two_makeable, making_law}

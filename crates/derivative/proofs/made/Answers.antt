@@ -1,5 +1,4 @@
 -- `made` answers as the definition does, by what was made.
-use borrow.Author.Rules.{rules}
 use Rattle.derivative.proofs.made.Goals as goal
 
 pub returns-in-Placed : goal.returns-in-Placed

@@ -1,5 +1,4 @@
 -- `product_of` answers as the definition does, by what is asked for.
-use borrow.Author.Rules.{rules}
 use Rattle.derivative.proofs.Laws.Rooms.{product_asked, product_unasked}
 use Rattle.derivative.proofs.product_of.Goals as goal
 

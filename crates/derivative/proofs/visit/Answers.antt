@@ -1,7 +1,6 @@
 -- `visit` reads the record and tells what it asks for, by its kind.
 use native.Mathlib.Omega.{arith}
 use mathlib.Core.Path.{◌∙◌, ap}
-use borrow.Author.Rules.{rules}
 use Rattle.derivative.specs.declared.Visited.TheVariants.{Leaf}
 use Rattle.derivative.proofs.Laws.Rooms.{children_lower, asked_by}
 use Rattle.derivative.proofs.visit.Goals as goal

@@ -1,5 +1,4 @@
 -- `read_job` passes one of the two first lines and reads the others behind it; the two differ, so no text is of both forms.
-use borrow.Author.Rules.{rules}
 use Rattle.text.specs.Ascii.{ascii}
 use Rattle.text.specs.Laws.Reading.{passed_to}
 use Rattle.jobform.specs.Laws.Job.{lines_are, a_comparison, a_match, no_comparison, no_match, no_job}

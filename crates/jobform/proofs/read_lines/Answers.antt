@@ -1,6 +1,5 @@
 -- `read_lines` reads one line behind the other. Each line has one reading, so where a line or the end of the text is missing, no lines of this
 -- form stand there at all.
-use borrow.Author.Rules.{rules}
 use Rattle.text.specs.Ascii.{ascii}
 use Rattle.text.specs.Laws.Lines.{hex_is, number_is}
 use Rattle.jobform.specs.Laws.Job.{no_first_line, no_second_line, no_budget_line, more_behind, all_lines}

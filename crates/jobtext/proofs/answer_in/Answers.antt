@@ -1,5 +1,4 @@
 -- `answer_in` lays down the answer to the job that is read, and refuses by 12 where none is.
-use borrow.Author.Rules.{rules}
 use Rattle.jobform.specs.Laws.Job.{comparison_read, match_read}
 use Rattle.jobtext.specs.Laws.Answering.{comparison_answered, match_answered, nothing_answered}
 use Rattle.jobtext.proofs.answer_in.Goals as goal

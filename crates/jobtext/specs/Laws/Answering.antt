@@ -1,6 +1,6 @@
 -- From what is read and what is laid down to the promise: the job read is the one that the text is the text of, or there is none.
 use Rattle.std.specs.Prelude.{ℕ, ◌-◌, ◌<◌, ◌≤◌, List, ◌≡◌, length, take}
-use Rattle.std.proofs.Common.{le_trans, arith, sym, ◌∙◌, ap, ap₂, subst}
+use Rattle.std.proofs.Common.{le_trans, arith, sym, ap₂, subst}
 use Rattle.text.specs.Told.{Puts}
 use Rattle.jobform.specs.declared.Job.{Job as CodeJob}
 use Rattle.jobform.specs.declared.Job.TheVariants.{Compare, Match, Bad}

@@ -1,5 +1,5 @@
 -- One text has one answer and leaves one room: it means one job.
-use Rattle.std.specs.Prelude.{ℕ, List, ◌++◌, ◌≡◌, refl, length, take, drop}
+use Rattle.std.specs.Prelude.{ℕ, List, ◌++◌, ◌≡◌, refl, length, drop}
 use Rattle.std.proofs.Common.{sym, ◌∙◌, ap, ap₂, take-append-drop, length-take-le}
 use Rattle.jobform.specs.Laws.OneJob.{one_job}
 use Rattle.jobtext.specs.Answer.{answer_text}

@@ -1,7 +1,7 @@
 -- A search that stopped, done again with more lent, comes past where it stopped: what stood stands first, rows and what the machine had, and at least one
 -- more is there of what gave out. Up to the stop every part is done again; there the step is made that stopped, or the pair is placed; and what follows
 -- only adds.
-use Prim.Native.Nat.{ℕ, zero, suc, ◌+◌, ◌<◌, ◌≤◌}
+use Prim.Native.Nat.{ℕ, zero, suc, ◌<◌, ◌≤◌}
 use Rattle.std.proofs.Common.{arith, sym, ◌∙◌, ap, subst}
 use Rattle.std.specs.Prelude.{Bool, false, ◌≡◌, length}
 use Rattle.std.proofs.Math.Bool.{true}

@@ -1,6 +1,6 @@
 -- What the search keeps, where it stops too: records and pairs are only added at the end, the store stays good and within its room, the
 -- table stays within its own and names places of the store, and budget is only spent. It is what the search over any machine keeps, for the store.
-use Rattle.std.specs.Prelude.{ℕ, ◌-◌, ◌<◌, ◌≤◌, Bool, List, [], ◌≡◌, length}
+use Rattle.std.specs.Prelude.{ℕ, ◌-◌, ◌<◌, ◌≤◌, Bool, List, [], length}
 use Rattle.std.proofs.Common.{le_refl, arith, subst}
 use Rattle.language.specs.Word.{IsByte, Listed}
 use Rattle.machine.specs.Laws.Search.{Search as MachineSearch, Going as MachineGoing}
@@ -10,13 +10,11 @@ use Rattle.records.specs.declared.record.Record.{Record}
 use Rattle.store.specs.Laws.Wall.{Grows, Ready, Kept}
 use Rattle.store.proofs.Laws.Wall.{grows_length, kept_refl, kept_trans}
 use Rattle.pairs.specs.declared.pair.Pair.{Pair}
-use Rattle.pairs.specs.Pair.{pair_at}
 use Rattle.searching.specs.Laws.Keeps.{Tabled}
 use Rattle.searching.specs.Search.{Search, same, different, stopped, Going, on, ends, look, by_letter, by_letters, take_pairs, search}
 use Rattle.searching.specs.Laws.StoreMachine.{Having, having, store_machine}
 use Rattle.searching.proofs.Laws.StoreMachine.{store_sense, store_lawful}
 use Rattle.searching.proofs.Laws.Unfolds.{told, told_going, look_is, by_letter_is, by_letters_is, take_pairs_is, search_is}
-use Rattle.searching.specs.Laws.Words.{Ordered}
 
 -- What a part of the search leaves, where it ends too.
 pub record KeptBoth (room pairs : ℕ) (store : List Record) (table : List Pair) (budget : ℕ)

@@ -7,7 +7,7 @@ use Rattle.language.specs.Word.{IsByte}
 use Rattle.language.proofs.Laws.Tests.{Tells}
 use Rattle.language.proofs.Laws.Quotient.{Quotient}
 use Rattle.language.proofs.Laws.Derivative.{nullable_right}
-use Rattle.machine.specs.Laws.Machine.{Stepped, stepped, halted, Machine, Sense, StepLaw, was_stepped, was_halted, Lawful}
+use Rattle.machine.specs.Laws.Machine.{stepped, Sense, StepLaw, was_stepped, was_halted, Lawful}
 use Rattle.machine.specs.Laws.Price.{Priced}
 use Rattle.machine.specs.Laws.Redoing.{Redone, redone, Redoing}
 use Rattle.records.specs.declared.record.Record.{Record}
@@ -19,14 +19,12 @@ use Rattle.store.specs.Laws.Wall.{Grows, Ready}
 use Rattle.store.proofs.Laws.Wall.{grows_refl, grows_trans, grows_length, grows_language, replay, anew}
 use Rattle.store.proofs.Laws.Making.{marked_nullable}
 use Rattle.store.proofs.Laws.Languages.{language_at}
-use Rattle.derivative.specs.Derivative.{Deriving, derived, stopped as unfinished, derive}
+use Rattle.derivative.specs.Derivative.{Deriving, derived, derive}
 use Rattle.derivative.specs.Visits.{visits}
 use Rattle.derivative.proofs.Laws.Steps.{Done, Why, was_done, was_ended}
 use Rattle.derivative.proofs.Laws.Visits.{visits_kept}
 use Rattle.derivative.proofs.Laws.Derivative.{Means, derive_law}
-use Rattle.pairs.specs.declared.pair.Pair.{Pair}
-use Rattle.pairs.specs.Pair.{no_pair}
-use Rattle.pairs.specs.Laws.Table.{has_places, has_both, both_had}
+use Rattle.pairs.specs.Laws.Table.{has_both, both_had}
 use Rattle.searching.specs.Laws.StoreMachine.{Having, having, of_deriving, store_machine}
 use Rattle.searching.proofs.Laws.Parts.{DeriveLaw}
 

@@ -1,6 +1,6 @@
 -- One small call for each number, in each call that has it, at its edge: just refused, and just not. Each is computed from the outcome's definition, so that
 -- another number, order, limit or layout, in definition and code alike, is refused here.
-use Rattle.std.specs.Prelude.{ℕ, ◌≤◌, true, false, List, [], ◌∷◌, ◌++◌, ◌≡◌, refl, length, replicate}
+use Rattle.std.specs.Prelude.{ℕ, ◌≤◌, true, false, List, [], ◌∷◌, ◌++◌, ◌≡◌, refl, replicate}
 use Rattle.std.proofs.Common.{arith, lit≤}
 use Rattle.language.specs.Language.{nothing as 𝟘, empty_word as 𝟙}
 use Rattle.refusals.specs.declared.Standing.TheVariants.{Refused}

@@ -1,6 +1,6 @@
 -- The documents' figures, each stated as it is printed: the numbers, the limits, and the rooms that the program lends. Definitions and code name them once,
 -- and some follow from others, so these laws are what takes each figure out again.
-use Rattle.std.specs.Prelude.{ℕ, ◌≡◌, refl}
+use Rattle.std.specs.Prelude.{◌≡◌, refl}
 use Rattle.refusals.specs.Numbers.{card_length, broken_record, wrong_mark, long_word, work_room_size, pair_room_size}
 use Rattle.refusals.specs.Numbers.{no_free_place, no_budget_left, no_place_for_pair, short_word_room, pair_names_no_record, job_form}
 use Rattle.refusals.specs.Limits.{most_pattern_records, most_proof_records, most_word, most_budget, least_room, most_room, most_places}

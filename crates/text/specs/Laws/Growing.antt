@@ -1,9 +1,8 @@
 -- A number digit by digit: its first digit, and one digit more. Where none goes on, no number that is not too large has these digits in front.
-use Rattle.std.specs.Prelude.{ℕ, ◌+◌, ◌-◌, ◌*◌, ◌<◌, ◌≤◌, List, [], ◌∷◌, ◌++◌, ◌≡◌, refl, length}
+use Rattle.std.specs.Prelude.{ℕ, ◌+◌, ◌-◌, ◌*◌, ◌<◌, ◌≤◌, List, [], ◌∷◌, ◌++◌, ◌≡◌, length}
 use Rattle.std.proofs.Common.{arith, append_assoc, sym, ◌∙◌, ap}
 use Rattle.language.specs.Word.{Over, none, one}
 use Rattle.language.proofs.Laws.Words.{over_join}
-use Rattle.text.specs.declared.decimal.Number.{Number}
 use Rattle.text.specs.declared.decimal.Number.TheVariants.{Is, Not}
 use Rattle.text.specs.Digits.{decimal_digit, decimal}
 use Rattle.text.specs.Told.{IsDigit, StopsAt, NoNumber, Begins, begins, begins_not, Grows, grows, grows_not}

@@ -1,5 +1,4 @@
 -- A pattern card is examined with its own limit.
-use borrow.Author.Rules.{rules}
 use Rattle.cards.specs.Examine.{pattern_card}
 use Rattle.cards.proofs.examine.examine_pattern.Goals as goal
 

@@ -1,5 +1,4 @@
 -- A proof card is examined with its own limit.
-use borrow.Author.Rules.{rules}
 use Rattle.cards.specs.Examine.{proof_card}
 use Rattle.cards.proofs.examine.examine_proof.Goals as goal
 

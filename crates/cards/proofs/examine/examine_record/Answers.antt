@@ -1,9 +1,8 @@
 -- `examine_record` tells 2 before 3: each of its three answers is the definition's case for the two tests that led there.
 use Prim.Native.Nat.{ℕ}
-use mathlib.Core.Bool.{Bool, true, false, not}
+use mathlib.Core.Bool.{Bool, true, false}
 use mathlib.Core.List.{List}
 use mathlib.Core.Path.{◌≡◌}
-use borrow.Author.Rules.{rules}
 use Rattle.refusals.specs.declared.Standing.TheVariants.{Good, Refused}
 use Rattle.records.specs.declared.record.Record.{Record}
 use Rattle.records.specs.Record.{records, record_at}

@@ -1,5 +1,4 @@
 -- `has_empty` answers by its match: each arm is a line of the definition.
-use borrow.Author.Rules.{rules}
 use Rattle.cards.proofs.examine.has_empty.Goals as goal
 
 pub returns-in-Choice : goal.returns-in-Choice

@@ -1,5 +1,4 @@
 -- `mark_right` compares the mark with the one that the children's marks give.
-use borrow.Author.Rules.{rules}
 use Rattle.cards.proofs.examine.mark_right.Goals as goal
 
 pub returns : goal.returns

@@ -1,5 +1,4 @@
 -- `marked_at` reads the record where there is one; past the last the definition reads a record of zeros.
-use borrow.Author.Rules.{rules}
 use Prim.Native.Nat.{◌<◌, ◌≤◌, ◌/◌}
 use native.Mathlib.Omega.{arith}
 use lib.ListN.{length}

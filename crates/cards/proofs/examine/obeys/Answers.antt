@@ -1,5 +1,4 @@
 -- `obeys` joins the two tests of the definition: the fourth byte, and the line of the record's kind.
-use borrow.Author.Rules.{rules}
 use Rattle.cards.proofs.examine.obeys.Goals as goal
 
 pub returns : goal.returns

@@ -1,5 +1,4 @@
 -- `obeys_line` joins the tests of the line's fields.
-use borrow.Author.Rules.{rules}
 use Rattle.cards.proofs.examine.obeys_line.Goals as goal
 
 pub returns : goal.returns

@@ -1,5 +1,4 @@
 -- `letter_of` joins the letter column of the kind's line with the test of the letter.
-use borrow.Author.Rules.{rules}
 use Rattle.cards.proofs.letters.letter_of.Goals as goal
 
 pub returns : goal.returns

@@ -1,6 +1,6 @@
 -- `mentions` finds a letter record of the letter if there is one: the records passed have none, so what the definition says of the
 -- whole card is what it says of the records from `at` on. The measure is the number of records that are left.
-use Prim.Native.Nat.{ℕ, suc, ◌+◌, ◌-◌, ◌/◌, ◌<◌, ◌≤◌}
+use Prim.Native.Nat.{ℕ, suc, ◌+◌, ◌/◌, ◌<◌, ◌≤◌}
 use native.Mathlib.Numerals.{add-one}
 use native.Mathlib.Omega.{arith}
 use mathlib.Core.Bool.{Bool, true, false, ◌||◌}
@@ -8,7 +8,6 @@ use mathlib.Core.List.{List}
 use mathlib.Core.Path.{◌≡◌, refl, sym, ◌∙◌}
 use lib.ListN.{length, drop, drop_of_length-le}
 use lib.Seq.{drop-cons}
-use borrow.Author.Rules.{rules}
 use Rattle.records.specs.declared.kind.Kind.{Kind}
 use Rattle.records.specs.declared.record.Record.{Record}
 use Rattle.records.specs.Record.{records, record_at, no_record}

@@ -1,6 +1,5 @@
 -- `check_letter` derives both places and looks the two that are reached up in the list, as the definition does by a single letter.
 use native.Mathlib.Omega.{arith}
-use borrow.Author.Rules.{rules}
 use Rattle.checking.specs.Told.{mapped_list}
 use Rattle.checking.proofs.Laws.Rooms.{reached_fit, both_spent, letter_passes, letter_misses, one_spent, letter_stops}
 use Rattle.checking.proofs.checking.check_letter.Goals as goal

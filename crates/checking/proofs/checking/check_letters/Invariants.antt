@@ -1,12 +1,9 @@
 -- `check_letters` answers as the definition does: with the letters before `at` passed, the store that stands in the room is the one from which the
 -- definition goes on with the rest. The measure is the number of letters that are left.
 use Prim.Native.Nat.{◌-◌}
-use native.Mathlib.Omega.{arith}
-use mathlib.Core.Path.{◌∙◌}
 use lib.ListN.{length}
-use borrow.Author.Rules.{rules}
 use Rattle.checking.specs.Told.{mapped_list}
-use Rattle.checking.proofs.Laws.Rooms.{room_as_long, good_now, both_inside, ByLetters, letters_first, letters_done, letter_passed, letter_ended}
+use Rattle.checking.proofs.Laws.Rooms.{ByLetters}
 use Rattle.checking.proofs.checking.check_letters.Given as goal
 
 abbrev pub invariant-loop-at : goal.invariant-loop-at

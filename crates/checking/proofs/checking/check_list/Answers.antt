@@ -1,6 +1,4 @@
 -- `check_list` looks the opening pair up, and goes through the pairs where it is listed.
-use borrow.Author.Tests.{not-true, not-false}
-use borrow.Author.Rules.{rules}
 use Rattle.checking.specs.Told.{mapped_list}
 use Rattle.checking.proofs.Laws.Rooms.{told_missing, on_listed}
 use Rattle.checking.proofs.checking.check_list.Goals as goal

@@ -1,7 +1,6 @@
 -- `check_pair` compares the marks at the two places of the mapped pair, which are places of the store, and goes on with the letters.
 use mathlib.Core.Bool.{beq}
 use borrow.Author.Tests.{not-true, not-false}
-use borrow.Author.Rules.{rules}
 use Rattle.checking.specs.Told.{mapped_list}
 use Rattle.checking.proofs.Laws.Listing.{pair_inside}
 use Rattle.checking.proofs.Laws.Rooms.{told_differing, on_agreeing}

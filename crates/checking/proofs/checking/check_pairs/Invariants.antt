@@ -1,12 +1,8 @@
 -- `check_pairs` answers as the definition does: with the pairs before n passed, the store that stands in the room is the one from which the
 -- definition goes on with the rest. The measure is the number of pairs that are left.
 use Prim.Native.Nat.{◌-◌}
-use native.Mathlib.Omega.{arith}
-use mathlib.Core.Path.{◌∙◌}
-use borrow.Author.Rules.{rules}
 use Rattle.checking.specs.Told.{mapped_list}
-use Rattle.checking.proofs.Laws.Listing.{length_listed}
-use Rattle.checking.proofs.Laws.Rooms.{room_as_long, good_now, mapped_now, ByPairs, pairs_first, pairs_done, pair_passed, pair_ended}
+use Rattle.checking.proofs.Laws.Rooms.{ByPairs}
 use Rattle.checking.proofs.checking.check_pairs.Given as goal
 
 abbrev pub invariant-loop-n : goal.invariant-loop-n

@@ -4,7 +4,6 @@ use mathlib.Core.List.{List}
 use mathlib.Core.Path.{◌≡◌, sym, ◌∙◌, ap}
 use Prim.Native.Nat.{ℕ, ◌<◌}
 use lib.ListN.{length, get_or}
-use borrow.Author.Rules.{rules}
 use Rattle.pairs.specs.declared.pair.Pair.{Pair}
 use Rattle.pairs.specs.Pair.{pair_record, pair_at}
 use Rattle.pairs.specs.Room.{pairs_of}

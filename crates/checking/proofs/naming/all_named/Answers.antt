@@ -1,12 +1,12 @@
 -- `all_named` goes through the pairs: one that names no record is one too many, and where none was found every pair is named. The measure is the
 -- number of pairs that are left.
-use Prim.Native.Nat.{ℕ, ◌-◌, ◌<◌, ◌≤◌}
+use Prim.Native.Nat.{ℕ, ◌<◌}
 use native.Mathlib.Omega.{arith}
 use mathlib.Core.Bool.{Bool, true, false, ◌&&◌, false≢true}
 use mathlib.Core.List.{List}
 use mathlib.Core.Path.{◌≡◌, refl, sym, ◌∙◌, ap}
 use lib.Dec.{ltb}
-use borrow.Author.Tests.{ltb-true, lt-ltb, not-true, not-false}
+use borrow.Author.Tests.{ltb-true, lt-ltb}
 use borrow.Author.Count.{below_more}
 use Rattle.language.proofs.Laws.Tests.{and_left, and_right, and_both}
 use Rattle.pairs.specs.declared.pair.Pair.{Pair}

@@ -2,7 +2,6 @@
 use mathlib.Core.Bool.{◌&&◌}
 use mathlib.Core.Path.{ap}
 use lib.Dec.{ltb}
-use borrow.Author.Rules.{rules}
 use Rattle.pairs.specs.declared.pair.Pair.{Pair}
 use Rattle.checking.proofs.naming.named.Goals as goal
 

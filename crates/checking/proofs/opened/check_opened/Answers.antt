@@ -1,7 +1,6 @@
 -- `check_opened` loads the proof card and checks the list: a proof card in good standing can be loaded, the map then maps the list as the definition
 -- does, and what the code answers of the list is told of the whole.
 use mathlib.Core.Path.{refl}
-use borrow.Author.Rules.{rules}
 use Rattle.language.proofs.Laws.Words.{bytes_all}
 use Rattle.checking.proofs.Laws.ProofCard.{loadable_proof, proof_full, list_ready, list_told}
 use Rattle.checking.proofs.opened.check_opened.Goals as goal

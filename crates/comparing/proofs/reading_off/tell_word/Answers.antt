@@ -1,6 +1,5 @@
 -- `tell_word` tells the empty word where no pair is placed; else it counts the word and its last letter, and writes it where it fits.
 use native.Mathlib.Omega.{arith}
-use borrow.Author.Rules.{rules}
 use Rattle.comparing.proofs.Laws.ReadOff.{few_letters, told_none, told_short, told_written}
 use Rattle.comparing.proofs.reading_off.tell_word.Goals as goal
 

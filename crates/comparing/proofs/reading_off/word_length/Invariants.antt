@@ -1,8 +1,6 @@
 -- `word_length` goes from each pair to the one that it came from and counts the pairs: what is counted and the word that is left are together
 -- as long as the word. The measure is the pair's number, since a pair comes from one with a lower number.
-use native.Mathlib.Omega.{arith}
-use borrow.Author.Rules.{rules}
-use Rattle.comparing.proofs.Laws.ReadOff.{can_read, comes_from, few_letters, Counting, none_counted, one_counted, all_counted}
+use Rattle.comparing.proofs.Laws.ReadOff.{Counting}
 use Rattle.comparing.proofs.reading_off.word_length.Given as goal
 
 abbrev pub invariant-loop-at : goal.invariant-loop-at

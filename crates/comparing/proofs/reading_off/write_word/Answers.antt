@@ -4,8 +4,7 @@ use Prim.Native.Nat.{◌-◌}
 use native.Mathlib.Omega.{arith}
 use mathlib.Core.Path.{◌∙◌}
 use lib.ListN.{length-set}
-use borrow.Author.Rules.{rules}
-use Rattle.comparing.proofs.Laws.ReadOff.{can_read, comes_from, Writing, none_written, one_left, one_written, whole_written}
+use Rattle.comparing.proofs.Laws.ReadOff.{can_read, comes_from, none_written, one_left, one_written, whole_written}
 use Rattle.comparing.proofs.reading_off.write_word.Goals as goal
 
 pub loop-at-init : goal.loop-at-init

@@ -1,11 +1,6 @@
 -- `write_word` goes from each pair to the one that it came from and writes its letter in front of those that are written: the word that is
 -- left, in front of what is written, is the word. The measure is the pair's number, since a pair comes from one with a lower number.
-use Prim.Native.Nat.{◌-◌}
-use native.Mathlib.Omega.{arith}
-use mathlib.Core.Path.{◌∙◌}
-use lib.ListN.{length-set}
-use borrow.Author.Rules.{rules}
-use Rattle.comparing.proofs.Laws.ReadOff.{can_read, comes_from, Writing, none_written, one_left, one_written, whole_written}
+use Rattle.comparing.proofs.Laws.ReadOff.{Writing}
 use Rattle.comparing.proofs.reading_off.write_word.Given as goal
 
 abbrev pub invariant-loop-at : goal.invariant-loop-at

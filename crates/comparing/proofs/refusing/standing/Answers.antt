@@ -3,7 +3,6 @@ use Prim.Native.Nat.{ℕ}
 use mathlib.Core.Bool.{Bool, true, false}
 use mathlib.Core.List.{List}
 use mathlib.Core.Path.{◌≡◌, sym, ◌∙◌}
-use borrow.Author.Rules.{rules}
 use Rattle.refusals.specs.declared.Standing.{Standing}
 use Rattle.refusals.specs.declared.Standing.TheVariants.{Good, Refused}
 use Rattle.cards.specs.Examine.{pattern_card}

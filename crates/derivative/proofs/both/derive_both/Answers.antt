@@ -1,6 +1,5 @@
 -- `derive_both` derives the left place, and then the right one in the store that stands in the room by then, which is good again.
 use native.Mathlib.Omega.{arith}
-use borrow.Author.Rules.{rules}
 use Rattle.derivative.proofs.Laws.Both.{at_depth, first_stopped, second_ready, then_second}
 use Rattle.derivative.proofs.both.derive_both.Goals as goal
 

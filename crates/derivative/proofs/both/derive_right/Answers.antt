@@ -1,5 +1,4 @@
 -- `derive_right` answers what the derivative of the right place comes to, beside the place of the left one.
-use borrow.Author.Rules.{rules}
 use Rattle.derivative.proofs.Laws.Both.{at_depth, right_at, right_stopped}
 use Rattle.derivative.proofs.both.derive_right.Goals as goal
 

@@ -1,7 +1,6 @@
 -- `lay_different` lays down the verdict, the word's line, the side's and the three counts, one behind the other; a word that the word room holds has two
 -- digits for each byte of it.
 use native.Mathlib.Omega.{arith}
-use borrow.Author.Rules.{rules}
 use Rattle.text.specs.Ascii.{ascii}
 use Rattle.jobtext.specs.Answer.{different_text}
 use Rattle.text.specs.Laws.Writing.{put_both, line_length, hex_line_length}

@@ -1,6 +1,5 @@
 -- `lay_match` lays down the verdict's line, then the two counts.
 use native.Mathlib.Omega.{arith}
-use borrow.Author.Rules.{rules}
 use Rattle.text.specs.Laws.Writing.{put_both}
 use Rattle.jobtext.specs.Laws.Answering.{lays}
 use Rattle.jobtext.proofs.answering.lay_match.Goals as goal

@@ -1,6 +1,5 @@
 -- `lay_refusal` lays down the verdict, then the number's line.
 use native.Mathlib.Omega.{arith}
-use borrow.Author.Rules.{rules}
 use Rattle.text.specs.Ascii.{ascii}
 use Rattle.jobtext.specs.Answer.{refused_text}
 use Rattle.text.specs.Laws.Writing.{put_both}

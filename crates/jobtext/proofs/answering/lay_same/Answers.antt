@@ -1,6 +1,5 @@
 -- `lay_same` lays down the verdict's line, then the three counts.
 use native.Mathlib.Omega.{arith}
-use borrow.Author.Rules.{rules}
 use Rattle.text.specs.Ascii.{ascii}
 use Rattle.jobtext.specs.Answer.{same_text}
 use Rattle.text.specs.Laws.Writing.{put_both}

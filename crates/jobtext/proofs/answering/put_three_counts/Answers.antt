@@ -1,6 +1,5 @@
 -- `put_three_counts` lays down the pairs' line, then the other two.
 use native.Mathlib.Omega.{arith}
-use borrow.Author.Rules.{rules}
 use Rattle.text.specs.Ascii.{ascii}
 use Rattle.jobtext.specs.Answer.{three_counts}
 use Rattle.text.specs.Laws.Writing.{put_both}

@@ -1,6 +1,5 @@
 -- `put_two_counts` lays down one line behind the other.
 use native.Mathlib.Omega.{arith}
-use borrow.Author.Rules.{rules}
 use Rattle.text.specs.Ascii.{ascii}
 use Rattle.jobtext.specs.Answer.{two_counts}
 use Rattle.text.specs.Laws.Writing.{put_both}

@@ -1,6 +1,5 @@
 -- `compare_job` lays down what `compare` tells: its one outcome in rooms of the sizes that are lent.
 use native.Mathlib.Omega.{arith}
-use borrow.Author.Rules.{rules}
 use Rattle.jobtext.specs.Laws.Judging.{word_inside, comparison_laid}
 use Rattle.jobtext.proofs.judging.compare_job.Goals as goal
 

@@ -1,7 +1,6 @@
 -- `lay_comparison` lays down the text of the case that the answer is.
 use mathlib.Core.Path.{ap}
 use lib.Dec.{lit≤}
-use borrow.Author.Rules.{rules}
 use Rattle.answers.specs.declared.Comparison.TheVariants.{Same, Refused, WordRoomShort}
 use Rattle.text.specs.Ascii.{ascii}
 use Rattle.jobtext.specs.Answer.{side}

@@ -1,6 +1,5 @@
 -- `match_job` lays down what `fits` tells: its one outcome in a room of the size that is lent.
 use native.Mathlib.Omega.{arith}
-use borrow.Author.Rules.{rules}
 use Rattle.answers.specs.declared.Match.TheVariants.{Yes, No, Refused}
 use Rattle.text.specs.Ascii.{ascii}
 use Rattle.jobtext.specs.Laws.Judging.{match_laid}

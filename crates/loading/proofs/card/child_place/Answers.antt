@@ -1,6 +1,5 @@
 -- `child_place` answers by whether the field names a child; a place that is kept as a `u16` fits a `usize`.
 use native.Mathlib.Omega.{arith}
-use borrow.Author.Rules.{rules}
 use Rattle.loading.proofs.card.child_place.Goals as goal
 
 pub overflow_cast-result : goal.overflow_cast-result

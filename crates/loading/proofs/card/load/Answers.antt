@@ -1,10 +1,8 @@
 -- `load` answers as the definition does: with the records before `at` loaded, the store that stands in the room and the places that
 -- begin the map are those from which the definition loads the rest. The measure is the number of records that are left.
-use Prim.Native.Nat.{◌-◌}
 use native.Mathlib.Omega.{arith}
 use mathlib.Core.Path.{◌∙◌}
-use borrow.Author.Rules.{rules}
-use Rattle.loading.proofs.Laws.LoadingRoom.{Underway, at_first, room_as_long, at_last, left_mapped, right_mapped, can_be_made, place_fits, when_full, when_placed}
+use Rattle.loading.proofs.Laws.LoadingRoom.{at_first, room_as_long, at_last, left_mapped, right_mapped, can_be_made, place_fits, when_full, when_placed}
 use Rattle.loading.proofs.card.load.Goals as goal
 
 pub loop-at-init : goal.loop-at-init

@@ -2,7 +2,6 @@
 -- begins with the place of each of its records.
 use native.Mathlib.Omega.{arith}
 use mathlib.Core.Path.{refl}
-use borrow.Author.Rules.{rules}
 use Rattle.language.proofs.Laws.Words.{bytes_all}
 use Rattle.loading.proofs.Laws.Entering.{loadable, some_last, last_mapped, root_fits, entered_at, entered_full}
 use Rattle.loading.proofs.entering.enter.Goals as goal

@@ -4,7 +4,6 @@ use mathlib.Core.List.{List, ◌++◌}
 use mathlib.Core.Path.{◌≡◌, refl, ◌∙◌}
 use lib.ListN.{length, take, drop}
 use lib.Seq.{drop-drop}
-use borrow.Author.Rules.{rules}
 use Rattle.records.specs.Record.{bytes_of, run_of}
 use Rattle.store.specs.Room.{laid, nothing_record, empty_word_record, fresh_store}
 use Rattle.store.proofs.Laws.Room.{put_in_part}

@@ -1,11 +1,8 @@
 -- `follow` answers as the definition does: with the letters before `at` followed, the store that stands in the room and the place
 -- reached are those from which the definition follows the rest. The measure is the number of letters that are left.
-use Prim.Native.Nat.{◌-◌}
 use native.Mathlib.Omega.{arith}
 use mathlib.Core.Path.{◌∙◌}
-use lib.ListN.{length}
-use borrow.Author.Rules.{rules}
-use Rattle.matching.proofs.Laws.Rooms.{Underway, at_first, room_as_long, good_now, here_taken, at_last, when_stopped, when_derived}
+use Rattle.matching.proofs.Laws.Rooms.{at_first, room_as_long, good_now, here_taken, at_last, when_stopped, when_derived}
 use Rattle.matching.proofs.following.follow.Goals as goal
 
 pub loop-at-init : goal.loop-at-init

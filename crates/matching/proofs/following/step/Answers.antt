@@ -1,5 +1,4 @@
 -- `step` derives at the depth that is enough for its place, as the definition of a derivative does.
-use borrow.Author.Rules.{rules}
 use Rattle.derivative.proofs.Laws.Both.{at_depth}
 use Rattle.matching.proofs.following.step.Goals as goal
 

@@ -4,7 +4,6 @@ use mathlib.Core.Bool.{Bool, true, false}
 use mathlib.Core.List.{List}
 use mathlib.Core.Path.{◌≡◌, sym, ◌∙◌}
 use borrow.Author.Tests.{lt-ltb, le-ltb}
-use borrow.Author.Rules.{rules}
 use Rattle.refusals.specs.declared.Standing.{Standing}
 use Rattle.refusals.specs.declared.Standing.TheVariants.{Good, Refused}
 use Rattle.refusals.specs.Numbers.{long_word, work_room_size}

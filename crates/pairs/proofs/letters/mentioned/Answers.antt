@@ -1,7 +1,6 @@
 -- `mentioned` asks each card, and each answers by its own letter records.
 use mathlib.Core.Path.{ap₂}
 use mathlib.Core.Bool.{◌||◌}
-use borrow.Author.Rules.{rules}
 use Rattle.pairs.proofs.letters.mentioned.Goals as goal
 
 pub returns : goal.returns

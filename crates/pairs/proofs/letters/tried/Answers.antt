@@ -1,13 +1,8 @@
 -- `tried` looks at each letter in turn and writes those that a card mentions: at each step the letters written are the mentioned ones
 -- below the one looked at. The measure is the number of letters that are left.
-use Prim.Native.Nat.{◌-◌}
 use native.Mathlib.Omega.{arith}
-use mathlib.Core.Logic.{⊎_elim}
 use mathlib.Core.Path.{sym, ◌∙◌}
-use borrow.Author.Rules.{rules}
-use Rattle.pairs.specs.Tried.{mentioned}
-use Rattle.refusals.specs.Limits.{most_letters}
-use Rattle.pairs.specs.Laws.Tried.{Written, none_written, room_for_one, one_written, one_passed, all_written}
+use Rattle.pairs.specs.Laws.Tried.{none_written, room_for_one, one_written, one_passed, all_written}
 use Rattle.pairs.proofs.letters.tried.Goals as goal
 use Rattle.pairs.proofs.letters.tried.Goals.{then-mentioned, else-mentioned}
 

@@ -1,6 +1,5 @@
 -- `open_both` lays a fresh store and enters the left card, then the right: the fresh store is good in a legal room, and the store that
 -- the left card leaves is good again.
-use borrow.Author.Rules.{rules}
 use Rattle.language.proofs.Laws.Words.{bytes_all}
 use Rattle.pairs.specs.Laws.OpeningRoom.{room_enough, lent_fresh, lent_left, both_told, full_told}
 use Rattle.pairs.proofs.opening.open_both.Goals as goal

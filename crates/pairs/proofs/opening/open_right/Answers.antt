@@ -1,5 +1,4 @@
 -- `open_right` tells what entering the right card told, with the left root before it.
-use borrow.Author.Rules.{rules}
 use Rattle.pairs.specs.Laws.OpeningRoom.{right_at, right_full}
 use Rattle.pairs.proofs.opening.open_right.Goals as goal
 

@@ -2,7 +2,6 @@
 use native.Mathlib.Omega.{arith}
 use lib.ListN.{length-set}
 use lib.Seq.{sets-eq}
-use borrow.Author.Rules.{rules}
 use Rattle.pairs.specs.Pair.{bytes_of_pair}
 use Rattle.pairs.proofs.pair.lay.Goals as goal
 

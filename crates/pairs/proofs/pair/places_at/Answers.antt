@@ -6,7 +6,6 @@ use mathlib.Core.List.{List}
 use mathlib.Core.Path.{◌≡◌, ◌∙◌}
 use lib.ListN.{get_or, drop}
 use lib.Seq.{get_or-drop}
-use borrow.Author.Rules.{rules}
 use Rattle.pairs.specs.Pair.{pair_of, places_of_pair}
 use Rattle.pairs.proofs.pair.places_at.Goals as goal
 

@@ -5,7 +5,6 @@ use mathlib.Core.Path.{◌≡◌}
 use lib.ListN.{get_or}
 use lib.Seq.{get_or-drop}
 use native.Mathlib.Nat.{add-zero}
-use borrow.Author.Rules.{rules}
 use Rattle.pairs.specs.Pair.{pair_record}
 use Rattle.pairs.specs.declared.pair.Pair.{Pair}
 use Rattle.pairs.proofs.pair.read.Goals as goal

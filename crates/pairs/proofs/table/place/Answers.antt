@@ -1,5 +1,4 @@
 -- `place` lays the pair in the part of the room behind the table, so the room is the table with the pair at its end.
-use borrow.Author.Rules.{rules}
 use Rattle.pairs.specs.Laws.Room.{one_pair_more}
 use Rattle.pairs.proofs.table.place.Goals as goal
 

@@ -1,12 +1,11 @@
 -- `stands_in` compares the two places of each pair as one number, which tells places apart: a pair with the number wanted stands in the
 -- table, and where no pair passed has it none does. The measure is the number of pairs that are left.
-use Prim.Native.Nat.{ℕ, ◌+◌, ◌*◌, ◌-◌, ◌<◌, ◌≤◌}
+use Prim.Native.Nat.{ℕ, ◌+◌, ◌*◌, ◌<◌}
 use native.Mathlib.Omega.{arith}
 use mathlib.Core.Bool.{Bool, true, false}
 use mathlib.Core.List.{List}
 use mathlib.Core.Path.{◌≡◌, refl, sym, ◌∙◌, ap}
 use borrow.Author.Count.{below_more}
-use borrow.Author.Rules.{rules}
 use Rattle.language.specs.Word.{Bytes}
 use Rattle.language.proofs.Laws.Words.{bytes_all}
 use Rattle.runs.specs.Laws.Bytes.{bytes_drop}

@@ -1,5 +1,4 @@
 -- `columns_of` answers by its match: each arm is a line of the kind table.
-use borrow.Author.Rules.{rules}
 use Rattle.records.proofs.kind.columns_of.Goals as goal
 
 pub returns-in-Nothing : goal.returns-in-Nothing

@@ -1,5 +1,4 @@
 -- `named` goes by its match, an arm for each number of the table; any other number is past the table's end.
-use borrow.Author.Rules.{rules}
 use native.Mathlib.Omega.{arith}
 use mathlib.Core.Path.{sym}
 use lib.ListN.{get_or-eq_default}

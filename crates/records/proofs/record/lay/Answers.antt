@@ -1,5 +1,4 @@
 -- `lay` stores the 8 bytes one by one from the start, a number's two at once, which is those bytes put before the rest.
-use borrow.Author.Rules.{rules}
 use native.Mathlib.Omega.{arith}
 use mathlib.Core.Path.{ap}
 use lib.ListN.{length, length-set}

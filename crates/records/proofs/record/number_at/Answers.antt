@@ -6,7 +6,6 @@ use mathlib.Core.List.{List}
 use mathlib.Core.Path.{◌≡◌, ◌∙◌}
 use lib.ListN.{get_or, drop}
 use lib.Seq.{get_or-drop}
-use borrow.Author.Rules.{rules}
 use Rattle.records.specs.Record.{record_of, number_of}
 use Rattle.records.proofs.record.number_at.Goals as goal
 

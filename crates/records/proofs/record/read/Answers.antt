@@ -1,5 +1,4 @@
 -- `read` takes the 8 bytes of the record at its place, which are the bytes of the run from there on.
-use borrow.Author.Rules.{rules}
 use Prim.Native.Nat.{ℕ, ◌+◌, ◌*◌}
 use mathlib.Core.List.{List}
 use mathlib.Core.Path.{◌≡◌}

@@ -1,6 +1,5 @@
 -- `look` answers by its tests as the definition does: the marks read in the work room are those of the store that stands there, the pair is
 -- looked up in the table that stands in the pair room, and placed behind it.
-use borrow.Author.Rules.{rules}
 use native.Mathlib.Omega.{arith}
 use Rattle.searching.proofs.Laws.Looking.{looking, look_differs, look_stands, look_placed, look_full}
 use Rattle.searching.proofs.looking.look.Goals as goal

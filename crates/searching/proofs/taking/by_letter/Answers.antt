@@ -1,6 +1,5 @@
 -- `by_letter` derives both places of its pair as the definition does, and looks at the pair that they come to.
 use native.Mathlib.Omega.{arith}
-use borrow.Author.Rules.{rules}
 use Rattle.searching.proofs.Laws.Letters.{one_letter, can_derive, can_look, then_looked, then_stopped}
 use Rattle.searching.proofs.taking.by_letter.Goals as goal
 

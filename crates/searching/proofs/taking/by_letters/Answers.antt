@@ -1,12 +1,9 @@
 -- `by_letters` answers as the definition does: with the letters before `at` done, the store and the table that stand in the two rooms are those
 -- from which the definition goes on with the rest. The measure is the number of letters that are left.
-use Prim.Native.Nat.{◌-◌}
 use native.Mathlib.Omega.{arith}
 use mathlib.Core.Path.{◌∙◌}
-use lib.ListN.{length}
-use borrow.Author.Rules.{rules}
 use Rattle.searching.proofs.Laws.Rooms.{work_as_long, pairs_as_long}
-use Rattle.searching.proofs.Laws.Letters.{LettersUnderway, letters_first, letters_last, letter_call, letter_on, letter_ended}
+use Rattle.searching.proofs.Laws.Letters.{letters_first, letters_last, letter_call, letter_on, letter_ended}
 use Rattle.searching.proofs.taking.by_letters.Goals as goal
 
 pub loop-at-init : goal.loop-at-init

@@ -1,6 +1,5 @@
 -- `search` looks at the opening pair in an empty table, and takes the pairs from there.
 use native.Mathlib.Omega.{arith}
-use borrow.Author.Rules.{rules}
 use Rattle.language.proofs.Laws.Words.{bytes_all}
 use Rattle.searching.proofs.Laws.Pairs.{none_placed, opening_ended, take_call, then_taken}
 use Rattle.searching.proofs.taking.search.Goals as goal

@@ -1,13 +1,10 @@
 -- `take_pairs` answers as the definition does: with the pairs before n taken, the store and the table that stand in the two rooms are those from
 -- which the definition takes the rest. The measure is the number of pairs that the pair room still has space for.
-use Prim.Native.Nat.{◌-◌}
 use native.Mathlib.Omega.{arith}
 use mathlib.Core.Path.{◌∙◌}
-use borrow.Author.Rules.{rules}
 use Rattle.language.proofs.Laws.Words.{bytes_all}
-use Rattle.pairs.specs.Room.{pairs_of}
 use Rattle.searching.proofs.Laws.Rooms.{work_as_long, pairs_as_long}
-use Rattle.searching.proofs.Laws.Pairs.{PairsUnderway, pairs_first, pairs_left, pairs_last, letters_call, pair_taken, pair_ended}
+use Rattle.searching.proofs.Laws.Pairs.{pairs_first, pairs_left, pairs_last, letters_call, pair_taken, pair_ended}
 use Rattle.searching.proofs.taking.take_pairs.Goals as goal
 
 pub loop-n-init : goal.loop-n-init

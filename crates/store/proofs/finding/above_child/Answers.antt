@@ -1,6 +1,5 @@
 -- A field that names a child is right just above it, and any other field at every place.
 use native.Mathlib.Omega.{arith}
-use borrow.Author.Rules.{rules}
 use Rattle.store.proofs.finding.above_child.Goals as goal
 
 pub returns-then-child : goal.returns-then-child

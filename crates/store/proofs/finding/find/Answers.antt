@@ -1,7 +1,7 @@
 -- `find` compares records by their numbers, which tell records apart: no record passed has the number wanted, so what the definition
 -- says of the whole store is what it says of the records from `at` on. The records below the place where looking begins are passed at once: the
 -- store is good, so each obeys the kind table at its place, which the record wanted would not. The measure is the number of records that are left.
-use Prim.Native.Nat.{ℕ, zero, suc, ◌*◌, ◌-◌, ◌<◌, ◌≤◌}
+use Prim.Native.Nat.{ℕ, zero, suc, ◌*◌, ◌<◌, ◌≤◌}
 use native.Mathlib.Omega.{arith}
 use mathlib.Core.Bool.{Bool, true, false, ◌&&◌, false≢true}
 use mathlib.Core.List.{List, ◌∷◌}
@@ -10,7 +10,6 @@ use lib.Dec.{eqb}
 use lib.ListN.{length, drop, drop_of_length-le}
 use lib.Seq.{drop-cons}
 use borrow.Author.Count.{below_more}
-use borrow.Author.Rules.{rules}
 use borrow.Author.Tests.{eqb-true, eq-eqb}
 use Rattle.language.specs.Word.{Bytes}
 use Rattle.records.specs.declared.record.Record.{Record}

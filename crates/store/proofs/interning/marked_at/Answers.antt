@@ -1,5 +1,4 @@
 -- `marked_at` reads the record at the place, which is the store's record there.
-use borrow.Author.Rules.{rules}
 use Rattle.store.proofs.Laws.Room.{child_in_room}
 use Rattle.store.proofs.interning.marked_at.Goals as goal
 

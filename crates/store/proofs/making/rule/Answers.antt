@@ -1,5 +1,4 @@
 -- `rule` answers by its match: each arm is a line of the rules.
-use borrow.Author.Rules.{rules}
 use Rattle.store.proofs.making.rule.Goals as goal
 
 pub returns-in-Sequence : goal.returns-in-Sequence

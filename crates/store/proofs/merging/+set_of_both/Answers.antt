@@ -1,8 +1,6 @@
 -- `set_of_both` answers as the definition does: where a set is used up by the other, and else by the lower first member put before the set of
 -- what is left of both. The measure is the sum of both places: what is behind a member stands lower.
-use Prim.Native.Nat.{ℕ, ◌+◌, ◌<◌}
 use native.Mathlib.Omega.{arith}
-use borrow.Author.Rules.{rules}
 use Rattle.store.proofs.Laws.MergingRoom.{tells_right, tells_left, falls as merge-falls, insides, can_put, put, filled}
 use Rattle.store.proofs.merging.+set_of_both.Goals as goal
 

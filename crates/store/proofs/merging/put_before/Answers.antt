@@ -3,7 +3,6 @@ use Prim.Native.Nat.{ℕ}
 use native.Mathlib.Omega.{arith}
 use mathlib.Core.List.{List}
 use mathlib.Core.Path.{◌≡◌, sym, ◌∙◌, ap}
-use borrow.Author.Rules.{rules}
 use Rattle.records.specs.declared.record.Record.{Record}
 use Rattle.store.specs.declared.interning.Made.{Made}
 use Rattle.store.specs.declared.interning.Made.TheVariants.{Placed}

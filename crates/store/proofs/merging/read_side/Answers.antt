@@ -3,7 +3,6 @@ use Prim.Native.Nat.{ℕ, ◌<◌}
 use mathlib.Core.Bool.{cond}
 use mathlib.Core.List.{List}
 use mathlib.Core.Path.{◌≡◌, sym, ◌∙◌, ap}
-use borrow.Author.Rules.{rules}
 use borrow.Author.Tests.{eq-eqb, ne_eqb}
 use Rattle.records.specs.declared.record.Record.{Record}
 use Rattle.records.specs.Record.{record_at}

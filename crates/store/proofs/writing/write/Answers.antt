@@ -1,5 +1,4 @@
 -- `write` lays the record in the part of the room behind the store, so the room is the store with the record at its end.
-use borrow.Author.Rules.{rules}
 use Rattle.store.proofs.Laws.Room.{one_record_more}
 use Rattle.store.proofs.writing.write.Goals as goal
 

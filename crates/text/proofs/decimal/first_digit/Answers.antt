@@ -1,6 +1,5 @@
 -- `first_digit` tells digits from the numbers below and above them, and refuses one that is too large.
 use native.Mathlib.Omega.{arith}
-use borrow.Author.Rules.{rules}
 use Rattle.text.specs.Laws.Growing.{first_of_number, first_too_large, no_first_digit}
 use Rattle.text.proofs.decimal.first_digit.Goals as goal
 

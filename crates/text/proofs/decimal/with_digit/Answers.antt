@@ -1,6 +1,5 @@
 -- `with_digit` goes on with a digit alone, not behind a zero, and not above the largest number.
 use native.Mathlib.Omega.{arith}
-use borrow.Author.Rules.{rules}
 use Rattle.text.specs.Laws.Growing.{no_digit_more, zero_first, too_large, one_digit_more}
 use Rattle.text.proofs.decimal.with_digit.Goals as goal
 

@@ -1,6 +1,5 @@
 -- `byte_of` joins the halves of two digits; where either is no digit, the two stand for no byte.
 use native.Mathlib.Omega.{arith}
-use borrow.Author.Rules.{rules}
 use Rattle.text.specs.Laws.Halves.{is_half, both_halves, high_missing, low_missing}
 use Rattle.text.proofs.hex.byte_of.Goals as goal
 

@@ -1,6 +1,5 @@
 -- `digit_of` answers as the definition does: a half below 10 is a digit from `0` on, any other one from `a` on.
 use mathlib.Core.Path.{sym}
-use borrow.Author.Rules.{rules}
 use Rattle.text.specs.Laws.Hex.{low_digit, high_digit}
 use Rattle.text.proofs.hex.digit_of.Goals as goal
 

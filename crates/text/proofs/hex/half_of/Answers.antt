@@ -1,6 +1,5 @@
 -- `half_of` tells the two ranges of digits from the numbers below, between and above them.
 use native.Mathlib.Omega.{arith}
-use borrow.Author.Rules.{rules}
 use Rattle.text.specs.Laws.Halves.{low_half, high_half, below, between, above, outside_half}
 use Rattle.text.proofs.hex.half_of.Goals as goal
 

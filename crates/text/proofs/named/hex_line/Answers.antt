@@ -1,7 +1,6 @@
 -- `hex_line` passes the name, reads the digits and passes a line feed: what stands in the text is the name in front of what stands behind it, and where
 -- the digits end without a line feed there is no line, for the room is long enough for all of them.
 use native.Mathlib.Omega.{arith}
-use borrow.Author.Rules.{rules}
 use Rattle.text.specs.Laws.Reading.{passed_to, passed_not}
 use Rattle.text.specs.Laws.Lines.{no_hex_name, a_hex_line, no_hex_feed}
 use Rattle.text.proofs.named.hex_line.Goals as goal

@@ -1,5 +1,4 @@
 -- `number_line` passes the name, reads the number and passes a line feed: what stands in the text is the name in front of what stands behind it.
-use borrow.Author.Rules.{rules}
 use Rattle.text.specs.Laws.Reading.{passed_to, passed_not, number_to, no_number}
 use Rattle.text.specs.Laws.Lines.{no_number_name, a_number_line, no_number_feed, no_number_line}
 use Rattle.text.proofs.named.number_line.Goals as goal

@@ -1,8 +1,6 @@
 -- `pass` compares number by number: those before `i` are passed. The measure is what is left of the piece.
-use Prim.Native.Nat.{◌-◌}
 use native.Mathlib.Omega.{arith}
-use lib.ListN.{length}
-use Rattle.text.specs.Laws.Reading.{Passing, none_passed, one_passed, all_passed, one_differs, too_short}
+use Rattle.text.specs.Laws.Reading.{none_passed, one_passed, all_passed, one_differs, too_short}
 use Rattle.text.proofs.reading.pass.Goals as goal
 
 pub returns-then-text-from : goal.returns-then-text-from

@@ -1,8 +1,7 @@
 -- `pass` compares number by number: those before `i` are passed. The measure is what is left of the piece.
 use Prim.Native.Nat.{◌-◌}
-use native.Mathlib.Omega.{arith}
 use lib.ListN.{length}
-use Rattle.text.specs.Laws.Reading.{Passing, none_passed, one_passed, all_passed, one_differs, too_short}
+use Rattle.text.specs.Laws.Reading.{Passing}
 use Rattle.text.proofs.reading.pass.Given as goal
 
 abbrev pub invariant-loop-i : goal.invariant-loop-i

@@ -1,10 +1,7 @@
 -- `read_hex` reads two digits a turn: the bytes read so far stand at the start of the room, and their digits in front of what is left of the
 -- text. The measure is what is left of the room.
-use Prim.Native.Nat.{◌-◌}
 use native.Mathlib.Omega.{arith}
-use lib.ListN.{length, length-set}
-use borrow.Author.Rules.{rules}
-use Rattle.text.specs.Laws.Reading.{HexSoFar, no_hex_yet, hex_full, hex_ended, hex_not, hex_one}
+use Rattle.text.specs.Laws.Reading.{no_hex_yet, hex_full, hex_ended, hex_not, hex_one}
 use Rattle.text.proofs.reading.read_hex.Goals as goal
 
 pub loop-count-init : goal.loop-count-init

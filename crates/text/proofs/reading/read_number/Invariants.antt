@@ -1,9 +1,7 @@
 -- `read_number` reads one digit a turn: the digits read so far are those of the number so far. The measure is what is left of the text.
 use Prim.Native.Nat.{◌-◌}
-use native.Mathlib.Omega.{arith}
 use lib.ListN.{length}
-use borrow.Author.Rules.{rules}
-use Rattle.text.specs.Laws.Reading.{NumberSoFar, number_at_end, number_begun, number_not_begun, number_stops, number_ended, number_grown, number_not}
+use Rattle.text.specs.Laws.Reading.{NumberSoFar}
 use Rattle.text.proofs.reading.read_number.Given as goal
 
 abbrev pub invariant-loop-at : goal.invariant-loop-at

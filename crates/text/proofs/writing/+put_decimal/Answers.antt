@@ -1,7 +1,5 @@
 -- `put_decimal` lays down the tenth part's digits, then the last digit, as the definition does. The measure is the number, whose tenth part is lower.
-use Prim.Native.Nat.{ℕ, ◌<◌}
 use native.Mathlib.Omega.{arith}
-use borrow.Author.Rules.{rules}
 use Rattle.text.specs.Laws.Decimal.{some_digits}
 use Rattle.text.specs.Laws.Writing.{small_put, tenth_room, last_room, last_put}
 use Rattle.text.proofs.writing.+put_decimal.Goals as goal

@@ -1,8 +1,7 @@
 -- `put` copies number by number: those before `i` stand in the room. The measure is what is left of the piece.
 use Prim.Native.Nat.{◌-◌}
-use native.Mathlib.Omega.{arith}
 use lib.ListN.{length}
-use Rattle.text.specs.Laws.Writing.{Putting, none_put, one_put, all_put}
+use Rattle.text.specs.Laws.Writing.{Putting}
 use Rattle.text.proofs.writing.put.Given as goal
 
 abbrev pub invariant-loop-i : goal.invariant-loop-i

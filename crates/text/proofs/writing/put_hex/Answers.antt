@@ -1,8 +1,7 @@
 -- `put_hex` lays down two digits a turn: those of the bytes before `i` stand in the room. The measure is the number of bytes that are left.
-use Prim.Native.Nat.{◌-◌}
 use native.Mathlib.Omega.{arith}
-use lib.ListN.{length, length-set}
-use Rattle.text.specs.Laws.Writing.{PuttingHex, no_hex_put, one_hex_put, all_hex_put}
+use lib.ListN.{length-set}
+use Rattle.text.specs.Laws.Writing.{no_hex_put, one_hex_put, all_hex_put}
 use Rattle.text.proofs.writing.put_hex.Goals as goal
 
 pub loop-i-init : goal.loop-i-init

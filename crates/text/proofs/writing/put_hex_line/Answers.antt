@@ -1,6 +1,5 @@
 -- `put_hex_line` lays down the name, the digits and a line feed, one behind the other.
 use native.Mathlib.Omega.{arith}
-use borrow.Author.Rules.{rules}
 use Rattle.text.specs.Laws.Hex.{length_hex}
 use Rattle.text.specs.Laws.Writing.{put_both}
 use Rattle.text.proofs.writing.put_hex_line.Goals as goal

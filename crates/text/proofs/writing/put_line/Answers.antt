@@ -1,5 +1,4 @@
 -- `put_line` lays down the name, the value and a line feed, one behind the other.
-use borrow.Author.Rules.{rules}
 use Rattle.text.specs.Laws.Writing.{put_both}
 use Rattle.text.proofs.writing.put_line.Goals as goal
 

@@ -1,6 +1,5 @@
 -- `put_number` lays down the name, the digits and a line feed, one behind the other; a number in 64 bits has at most 20 digits.
 use native.Mathlib.Omega.{arith}
-use borrow.Author.Rules.{rules}
 use Rattle.text.specs.Laws.Writing.{put_both, number_short}
 use Rattle.text.proofs.writing.put_number.Goals as goal
 
