@@ -7,12 +7,12 @@ use Rattle.records.specs.Kind.{nothing_kind, empty_word_kind, letter_kind, choic
 use Rattle.store.specs.declared.finding.Found.TheVariants.{At, Absent}
 use Rattle.store.specs.Making.{find, new_record}
 
-infixr 20 ◌+◌
+infixr 20 ◌⊕◌
 infixr 30 ◌·◌
 infixl 40 ◌*
--- Choice, sequence and repeat: `1 + a·a*` is the choice of the empty word and the sequence of `a` and the repeat of `a`.
-abbrev pub ◌+◌ : Pattern → Pattern → Pattern
-◌+◌ = choice
+-- Choice, which document 01 writes as a sum, sequence and repeat: `1 ⊕ a·a*` is the choice of the empty word and the sequence of `a` and the repeat of `a`.
+abbrev pub ◌⊕◌ : Pattern → Pattern → Pattern
+◌⊕◌ = choice
 
 abbrev pub ◌·◌ : Pattern → Pattern → Pattern
 ◌·◌ = sequence

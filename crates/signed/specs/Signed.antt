@@ -13,7 +13,7 @@ use Rattle.answers.specs.Matching.{Told as ToldOfMatch, told as told-of-match}
 use Rattle.answers.specs.Comparing.{told}
 use Rattle.text.specs.Ascii.{ascii}
 use Rattle.jobtext.specs.Answer.{lent_work, lent_pairs, lent_word}
-use Rattle.signed.specs.Samples.{◌+◌, ◌·◌, ◌*, a, b, h, card_of}
+use Rattle.signed.specs.Samples.{◌⊕◌, ◌·◌, ◌*, a, b, h, card_of}
 
 -- Two patterns compared, with the answer and the word written, or a pattern and a word, with the answer.
 pub data Case : Type 0 where
@@ -43,16 +43,16 @@ pub data AllHold : List Case → Type 0 where
 -- them the word's length and whether the left side has it; `Refused` the number; `Yes` and `No` places and visits.
 abbrev pub cases : List Case
 cases =
-    comparison (a *) (𝟙 + a · a *) 100 (Same 2 6 10) []
-    ∷ comparison h (h + h · h) 100 (Different 2 false 2 6 9) (ascii "hh")
-    ∷ comparison h (h + h · h) 8 (Refused 8 2 6 8) []
+    comparison (a *) (𝟙 ⊕ a · a *) 100 (Same 2 6 10) []
+    ∷ comparison h (h ⊕ h · h) 100 (Different 2 false 2 6 9) (ascii "hh")
+    ∷ comparison h (h ⊕ h · h) 8 (Refused 8 2 6 8) []
     ∷ match_of ((a *) * · b) (ascii "aa") 100 (No 9 13)
     ∷ match_of ((a *) * · b) (ascii "aab") 100 (Yes 9 21)
     ∷ comparison (a · a) a 100 (Different 1 false 1 4 3) (ascii "a")
     ∷ comparison (a · 𝟘) a 100 (Different 1 false 1 3 2) (ascii "a")
-    ∷ comparison (a + 𝟙) a 100 (Different 0 true 0 4 0) []
+    ∷ comparison (a ⊕ 𝟙) a 100 (Different 0 true 0 4 0) []
     ∷ comparison (𝟘 *) 𝟘 100 (Different 0 true 0 3 0) []
     ∷ comparison 𝟙 (𝟘 *) 100 (Same 1 3 0) []
-    ∷ comparison (a + b) (b + a) 100 (Same 3 5 20) []
-    ∷ comparison ((a + a · a) *) (a *) 100 (Same 3 10 35) []
+    ∷ comparison (a ⊕ b) (b ⊕ a) 100 (Same 3 5 20) []
+    ∷ comparison ((a ⊕ a · a) *) (a *) 100 (Same 3 10 35) []
     ∷ []

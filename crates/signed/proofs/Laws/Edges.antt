@@ -29,7 +29,7 @@ use Rattle.text.specs.Ascii.{ascii}
 use Rattle.jobform.specs.Form.{Job, match_job, job_text, WellFormed, well_match}
 use Rattle.jobtext.specs.Answer.{answer_text, refused_text}
 use Rattle.jobtext.specs.Promise.{Answers, answered, refused_12}
-use Rattle.signed.specs.Samples.{◌+◌, ◌·◌, ◌*, a, b, card_of}
+use Rattle.signed.specs.Samples.{◌⊕◌, ◌·◌, ◌*, a, b, card_of}
 use Rattle.signed.proofs.Laws.Signed.{is_bytes, bytes_tested}
 
 -- The 8 bytes of a record with small fields.
@@ -156,8 +156,8 @@ pub record ComparingEdges : Type 0 where
   pub left_finds_no_room : Comparing (card_of a) (card_of b) 16 8 1 2 (NotCompared 7 0 2 0)
   pub right_finds_no_room : Comparing (card_of a) (card_of b) 24 8 1 2 (NotCompared 7 0 3 0)
   pub both_find_room : Comparing (card_of a) (card_of b) 32 8 1 2 (Different 1 true 1 4 2)
-  pub derived_finds_no_room : Comparing (card_of a) (card_of (a + a · a)) 40 16 2 9 (NotCompared 7 1 5 5)
-  pub derived_finds_room : Comparing (card_of a) (card_of (a + a · a)) 48 16 2 9 (Different 2 false 2 6 9)
+  pub derived_finds_no_room : Comparing (card_of a) (card_of (a ⊕ a · a)) 40 16 2 9 (NotCompared 7 1 5 5)
+  pub derived_finds_room : Comparing (card_of a) (card_of (a ⊕ a · a)) 48 16 2 9 (Different 2 false 2 6 9)
   -- 8: `a` against itself makes 6 visits.
   pub one_visit_short : Comparing (card_of a) (card_of a) 24 24 0 5 (NotCompared 8 3 3 5)
   pub visits_enough : Comparing (card_of a) (card_of a) 24 24 0 6 (Same 3 3 6)
@@ -166,9 +166,9 @@ pub record ComparingEdges : Type 0 where
   pub one_pair_record : Comparing (card_of (a *)) (card_of (a *)) 32 8 0 4 (Same 1 4 4)
   pub marks_before_room : Comparing (card_of a) (card_of (a · a)) 32 8 1 3 (Different 1 true 1 4 3)
   -- 10, ""different", and the word room is shorter than the word". The empty word fits any; a word may be shorter than the pairs placed.
-  pub word_finds_no_room : Comparing (card_of (a + b)) (card_of (a + b · b)) 56 16 0 14 (WordRoomShort 1 2 7 14)
-  pub word_finds_room : Comparing (card_of (a + b)) (card_of (a + b · b)) 56 16 1 14 (Different 1 true 2 7 14)
-  pub empty_word_fits : Comparing (card_of (a + 𝟙)) (card_of a) 32 8 0 0 (Different 0 true 0 4 0)
+  pub word_finds_no_room : Comparing (card_of (a ⊕ b)) (card_of (a ⊕ b · b)) 56 16 0 14 (WordRoomShort 1 2 7 14)
+  pub word_finds_room : Comparing (card_of (a ⊕ b)) (card_of (a ⊕ b · b)) 56 16 1 14 (Different 1 true 2 7 14)
+  pub empty_word_fits : Comparing (card_of (a ⊕ 𝟙)) (card_of a) 32 8 0 0 (Different 0 true 0 4 0)
   -- A letter that nothing reaches takes a place and is tried: a loose `b` before one of the cards.
   pub with_loose_letter : Comparing (card_of b ++ card_of a) (card_of a) 32 24 0 12 (Same 3 4 12)
 
@@ -280,8 +280,8 @@ pub record CheckingEdges : Type 0 where
   pub pattern_finds_no_room : CheckingA a_store a_table 16 6 (NotChecked 7 2 0)
   pub proof_finds_no_room : CheckingA (a_store ++ card_of b) a_table 24 6 (NotChecked 7 3 0)
   pub proof_finds_room : CheckingA (a_store ++ card_of b) a_table 32 6 (Accepted 4 6)
-  pub derived_finds_no_room : Checking (card_of (a + a · a)) (card_of (a + a · a)) (card_of (a + a · a)) (pair 2 2) 40 8 (NotChecked 7 5 4)
-  pub derived_finds_room : Checking (card_of (a + a · a)) (card_of (a + a · a)) (card_of (a + a · a)) (pair 2 2) 48 8 (NotListed 0 97 6 8)
+  pub derived_finds_no_room : Checking (card_of (a ⊕ a · a)) (card_of (a ⊕ a · a)) (card_of (a ⊕ a · a)) (pair 2 2) 40 8 (NotChecked 7 5 4)
+  pub derived_finds_room : Checking (card_of (a ⊕ a · a)) (card_of (a ⊕ a · a)) (card_of (a ⊕ a · a)) (pair 2 2) 48 8 (NotListed 0 97 6 8)
   -- 8: the list costs 6 visits; a pair listed twice is judged twice.
   pub one_visit_short : CheckingA a_store a_table 24 5 (NotChecked 8 3 5)
   pub listed_twice : CheckingA a_store (a_table ++ pair 2 2) 24 8 (Accepted 3 8)
@@ -350,8 +350,8 @@ pub record Layout : Type 0 where
   -- After a comparison, in rooms of 32 bytes that held 9s: the store, the table, and the word; at 10 no word.
   pub store_left : laid (compare_outcome (card_of a) (card_of a) 32 32 0 6).store (replicate 32 9) ≡ a_store ++ replicate 8 9
   pub table_left : laid_pairs (compare_outcome (card_of a) (card_of a) 32 32 0 6).table (replicate 32 9) ≡ a_table ++ replicate 8 9
-  pub word_left : (compare_outcome (card_of (a + b)) (card_of (a + b · b)) 56 16 1 14).written ≡ 98 ∷ []
-  pub no_word_left : (compare_outcome (card_of (a + b)) (card_of (a + b · b)) 56 16 0 14).written ≡ []
+  pub word_left : (compare_outcome (card_of (a ⊕ b)) (card_of (a ⊕ b · b)) 56 16 1 14).written ≡ 98 ∷ []
+  pub no_word_left : (compare_outcome (card_of (a ⊕ b)) (card_of (a ⊕ b · b)) 56 16 0 14).written ≡ []
   -- "Numbers 1 to 6 and 11 leave all rooms untouched": the last of each call.
   pub fits_at_5 : (fits_outcome (card_of a) [] 15 0).store ≡ []
   pub compare_at_6 : compare_outcome (card_of a) (card_of a) 24 0 0 0 ≡ record { tells = told-of-comparison (NotCompared 6 0 0 0); store = []; table = []; written = [] }

@@ -22,7 +22,7 @@ use Rattle.text.specs.Ascii.{ascii}
 use Rattle.jobform.specs.Form.{Job, compare_job, match_job, job_text, WellFormed, well_compare}
 use Rattle.jobtext.specs.Answer.{comparison_text, match_text, answer_text, refused_text, two_counts, same_text, different_text}
 use Rattle.jobtext.specs.Promise.{Answers, answered}
-use Rattle.signed.specs.Samples.{◌+◌, ◌·◌, ◌*, a, b, h, card_of}
+use Rattle.signed.specs.Samples.{◌⊕◌, ◌·◌, ◌*, a, b, h, card_of}
 use Rattle.signed.specs.Signed.{Case, comparison, match_of, Holds, compared, matched, AllHold, none, more, cases}
 
 -- Every signed case holds.
@@ -82,18 +82,18 @@ Matched pattern word budget text = answer_text (match_job (card_of pattern) (asc
 
 -- Each case by its number, as document 01 writes it.
 pub record Printed : Type 0 where
-  pub the_job : Compared (a *) (𝟙 + a · a *) 100 "verdict=same\npairs=2\nplaces=6\nvisits=10\n"
-  pub tidied : Compared h (h + h · h) 100 "verdict=different\nword=6868\nonly=right\npairs=2\nplaces=6\nvisits=9\n"
-  pub tidied_short : Compared h (h + h · h) 8 "verdict=refused\nreason=8\n"
+  pub the_job : Compared (a *) (𝟙 ⊕ a · a *) 100 "verdict=same\npairs=2\nplaces=6\nvisits=10\n"
+  pub tidied : Compared h (h ⊕ h · h) 100 "verdict=different\nword=6868\nonly=right\npairs=2\nplaces=6\nvisits=9\n"
+  pub tidied_short : Compared h (h ⊕ h · h) 8 "verdict=refused\nreason=8\n"
   pub on_aa : Matched ((a *) * · b) "aa" 100 "verdict=no\nplaces=9\nvisits=13\n"
   pub on_aab : Matched ((a *) * · b) "aab" 100 "verdict=yes\nplaces=9\nvisits=21\n"
   pub two_or_one : Compared (a · a) a 100 "verdict=different\nword=61\nonly=right\npairs=1\nplaces=4\nvisits=3\n"
   pub nothing_or_one : Compared (a · 𝟘) a 100 "verdict=different\nword=61\nonly=right\npairs=1\nplaces=3\nvisits=2\n"
-  pub with_empty_or_without : Compared (a + 𝟙) a 100 "verdict=different\nword=\nonly=left\npairs=0\nplaces=4\nvisits=0\n"
+  pub with_empty_or_without : Compared (a ⊕ 𝟙) a 100 "verdict=different\nword=\nonly=left\npairs=0\nplaces=4\nvisits=0\n"
   pub repeat_or_nothing : Compared (𝟘 *) 𝟘 100 "verdict=different\nword=\nonly=left\npairs=0\nplaces=3\nvisits=0\n"
   pub empty_or_repeat : Compared 𝟙 (𝟘 *) 100 "verdict=same\npairs=1\nplaces=3\nvisits=0\n"
-  pub either_order : Compared (a + b) (b + a) 100 "verdict=same\npairs=3\nplaces=5\nvisits=20\n"
-  pub once_or_twice : Compared ((a + a · a) *) (a *) 100 "verdict=same\npairs=3\nplaces=10\nvisits=35\n"
+  pub either_order : Compared (a ⊕ b) (b ⊕ a) 100 "verdict=same\npairs=3\nplaces=5\nvisits=20\n"
+  pub once_or_twice : Compared ((a ⊕ a · a) *) (a *) 100 "verdict=same\npairs=3\nplaces=10\nvisits=35\n"
 
 pub all_printed : Printed
 unfolding ascii same_text different_text refused_text two_counts
@@ -141,7 +141,7 @@ bytes_tested (c ∷ s) e = one (ltb-true c 256 (and_left (ltb c 256) (is_bytes s
 
 well : WellFormed the_job
 unfolding is_bytes card_of
-well = well_compare (bytes_tested (card_of (a *)) refl) (bytes_tested (card_of (𝟙 + a · a *)) refl) (lit≤ tt)
+well = well_compare (bytes_tested (card_of (a *)) refl) (bytes_tested (card_of (𝟙 ⊕ a · a *)) refl) (lit≤ tt)
 
 short : length printed_job ≤ most_job
 unfolding ascii
