@@ -13,7 +13,7 @@ use Rattle.derivative.specs.Derivative.{Deriving, derived, stopped}
 use Rattle.derivative.specs.Both.{DerivingBoth, both_derived, one_stopped}
 
 abbrev pub told_deriving : Deriving → Derived
-told_deriving (derived place store budget) = At place (length store) budget
+told_deriving (derived place store budget) = At budget place (length store)
 told_deriving (stopped number store budget) = Stopped number (length store) budget
 
 -- The store afterwards.
@@ -28,7 +28,7 @@ pub record Comes (room : List ℕ) (d : Deriving) (answer : Derived) (room' : Li
 
 -- What the code answers of a making within a derivation.
 abbrev pub of_made : Made → ℕ → Derived
-of_made (Placed place taken) budget = At place taken budget
+of_made (Placed place taken) budget = At budget place taken
 of_made (Full taken) budget = Stopped no_free_place taken budget
 
 -- The same of two places derived by one letter.

@@ -29,7 +29,7 @@ pub fn derive_both(
 {
     let first = derive(room, places, x, letter, budget);
     match first {
-        Derived::At(next, taken, left) => derive_right(room, taken, next, y, letter, left),
+        Derived::At(left, next, taken) => derive_right(room, taken, next, y, letter, left),
         Derived::Stopped(number, taken, left) => Both::Stopped(number, taken, left),
     }
 }
@@ -49,7 +49,7 @@ fn derive_right(
 {
     let second = derive(room, places, y, letter, budget);
     match second {
-        Derived::At(last, taken, left) => Both::At(next, last, taken, left),
+        Derived::At(left, last, taken) => Both::At(next, last, taken, left),
         Derived::Stopped(number, taken, left) => Both::Stopped(number, taken, left),
     }
 }

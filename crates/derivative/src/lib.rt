@@ -24,10 +24,11 @@ pub mod both;
 // What a visit costs.
 const PRICE: u32 = 1;
 
-// The derived place, the places then taken and the budget left; or the number that stopped it, and these two as they stood.
+// The budget left, the derived place and the places then taken; or the number that stopped it, the places and the budget left. The budget stands first,
+// so that a level of the calls takes little of the stack.
 #[derive(Clone, Copy)]
 pub enum Derived {
-    At(usize, usize, u32),
+    At(u32, usize, usize),
     Stopped(u8, usize, u32),
 }
 
@@ -53,7 +54,7 @@ pub fn derive(room: &mut [u8], places: usize, place: usize, letter: u8, budget: 
     let remaining = budget - fee;
     let visited = visit(room, places, place, letter);
     match visited {
-        Visited::Leaf(next) => Derived::At(next, places, remaining),
+        Visited::Leaf(next) => Derived::At(remaining, next, places),
         Visited::Parts(left, right, product, both) => derive_parts(
             room, places, left, right, product, both, letter, remaining,
         ),
@@ -119,7 +120,7 @@ fn derive_parts(
 {
     let first = derive_part(room, places, left, letter, budget);
     match first {
-        Derived::At(x, taken, rest) => with_left(
+        Derived::At(rest, x, taken) => with_left(
             room, taken, x, right, product, both, letter, rest,
         ),
         Derived::Stopped(number, taken, rest) => Derived::Stopped(number, taken, rest),
@@ -179,11 +180,11 @@ fn with_right(
     ensures { (depth : ℕ) → cond both right 0 < depth → Comes room.old (after_product (λ p s b. derive_to depth (places_of room.old) letter p s b) (places_of room.old) right both x (store_in room.old places) budget) result room.new }
 {
     if !both {
-        return Derived::At(x, places, budget);
+        return Derived::At(budget, x, places);
     }
     let second = derive_part(room, places, right, letter, budget);
     match second {
-        Derived::At(y, taken, rest) => made(make(room, taken, CHOICE, 0, x, y), rest),
+        Derived::At(rest, y, taken) => made(make(room, taken, CHOICE, 0, x, y), rest),
         Derived::Stopped(number, taken, rest) => Derived::Stopped(number, taken, rest),
     }
 }
@@ -193,7 +194,7 @@ fn made(m: Made, budget: u32) -> Derived
     ensures { result ≡ of_made m budget }
 {
     match m {
-        Made::Placed(place, taken) => Derived::At(place, taken, budget),
+        Made::Placed(place, taken) => Derived::At(budget, place, taken),
         Made::Full(taken) => Derived::Stopped(NO_FREE_PLACE, taken, budget),
     }
 }

@@ -30,7 +30,7 @@ pub fn follow(room: &mut [u8], places: usize, place: usize, word: &[u8], budget:
     while at < word.len() {
         let stepped = step(room, taken, here, word[at], left);
         match stepped {
-            Derived::At(next, now_taken, now_left) => {
+            Derived::At(now_left, next, now_taken) => {
                 here = next;
                 taken = now_taken;
                 left = now_left;
@@ -41,5 +41,5 @@ pub fn follow(room: &mut [u8], places: usize, place: usize, word: &[u8], budget:
         }
         at += 1;
     }
-    Derived::At(here, taken, left)
+    Derived::At(left, here, taken)
 }

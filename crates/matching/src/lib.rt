@@ -45,7 +45,7 @@ fn judge(room: &mut [u8], places: usize, place: usize, word: &[u8], budget: u32)
 {
     let end = follow(room, places, place, word, budget);
     match end {
-        Derived::At(last, taken, left) => {
+        Derived::At(left, last, taken) => {
             if marked_at(room, taken, last) {
                 Match::Yes(taken, budget - left)
             } else {

@@ -61,7 +61,7 @@ module _ (letter : ℕ) (byte : IsByte letter) (cap : ℕ) (store : List Record)
 
 -- The code of the right one.
 module _ {room : List ℕ} {d : Deriving} {answer : Derived} {room' : List ℕ} (c : Comes room d answer room') (x : ℕ) where
-  pub right_at : {y taken left : ℕ} → answer ≡ At y taken left → BothCome room (right_derived x d) (BothAt x y taken left) room'
+  pub right_at : {y taken left : ℕ} → answer ≡ At left y taken → BothCome room (right_derived x d) (BothAt x y taken left) room'
   right_at {y} {taken} {left} e = go d c
     where
       go : (d : Deriving) → Comes room d answer room' → BothCome room (right_derived x d) (BothAt x y taken left) room'
@@ -108,7 +108,7 @@ module _ {room : List ℕ} {places : ℕ} (good : GoodStore room places) (letter
           let m : left ≡ b = cc in
           record { answers = rw (i, j, m); leaves = k.leaves }
 
-  module _ {next₁ taken left : ℕ} (e : answer ≡ At next₁ taken left) where
+  module _ {next₁ taken left : ℕ} (e : answer ≡ At left next₁ taken) where
     stood : Stands room places (derive cap letter x store budget) next₁ taken left room₁
     stood = stands (step_keeps (derive_law letter byte cap x store budget (in_store room inside.0) (room_ready good))) c e
 

@@ -98,7 +98,7 @@ module _ (letter : ℕ) (byte : IsByte letter) (depth : ℕ) where
       (λ y s b k i. right_keeps k.ready y right both l i (omega (arith, grows_length k.grows)) b)
 
 -- What the code told is one thing.
-pub not_both : {answer : Derived} {number taken rest x taken' rest' : ℕ} → answer ≡ Stopped number taken rest → answer ≡ At x taken' rest' → ⊥
+pub not_both : {answer : Derived} {number taken rest x taken' rest' : ℕ} → answer ≡ Stopped number taken rest → answer ≡ At rest' x taken' → ⊥
 not_both e f = let z : ◌≡◌ {A = ℕ} 0 1 = cc in omega arith
 
 -- A place was derived from the store of a room: the store that then stands in it.
@@ -112,7 +112,7 @@ pub record Stands (room : List ℕ) (places : ℕ) (d : Deriving) (x taken rest 
 
 pub stands : {room : List ℕ} {places : ℕ} {d : Deriving} {answer : Derived} {room' : List ℕ}
     → Keeps (places_of room) (store_in room places) d → Comes room d answer room'
-    → {x taken rest : ℕ} → answer ≡ At x taken rest → Stands room places d x taken rest room'
+    → {x taken rest : ℕ} → answer ≡ At rest x taken → Stands room places d x taken rest room'
 stands (derives {place} {store'} k l) c {x} e =
     let a = c.answers in
     let same : x ≡ place = cc in
@@ -178,10 +178,10 @@ module _ {room : List ℕ} {places : ℕ} (good : GoodStore room places) {d : De
 -- Where nothing is made the room stays as it is.
 
 module _ {room : List ℕ} {places : ℕ} (good : GoodStore room places) where
-  derived_here : (x rest : ℕ) → Comes room (derived x (store_in room places) rest) (At x places rest) room
+  derived_here : (x rest : ℕ) → Comes room (derived x (store_in room places) rest) (At rest x places) room
   derived_here x rest =
       record {
-        answers = ap (λ (n : ℕ). At x n rest) (sym (length_store_in room places));
+        answers = ap (λ (n : ℕ). At rest x n) (sym (length_store_in room places));
         leaves = sym (laid_same places room good.fits good.bytes);
       }
 
@@ -229,11 +229,11 @@ Makes room m told exit = (told ≡ told_making m) × (exit ≡ laid (after m) ro
 module _ (letter : ℕ) (byte : IsByte letter) {room : List ℕ} {places : ℕ} (good : GoodStore room places) where
   -- A place is derived first.
   module _ (place budget : ℕ) (inside : place < places) {first : Derived} {room₁ : List ℕ} (c : Derives letter room places place budget first room₁) where
-    first_stands : {x taken rest : ℕ} → first ≡ At x taken rest → (depth : ℕ) → place < depth
+    first_stands : {x taken rest : ℕ} → first ≡ At rest x taken → (depth : ℕ) → place < depth
         → Stands room places (D letter depth (places_of room) place (store_in room places) budget) x taken rest room₁
     first_stands e depth l = stands (derive_keeps letter byte depth (room_ready good) place l (in_store room inside) budget) (c depth l) e
 
-    pub first_next : {x taken rest : ℕ} → first ≡ At x taken rest → Next places room₁ x taken
+    pub first_next : {x taken rest : ℕ} → first ≡ At rest x taken → Next places room₁ x taken
     first_next e = next good (first_stands e (suc place) (omega arith))
 
     -- It was stopped, as the left part or as the right one.
@@ -247,7 +247,7 @@ module _ (letter : ℕ) (byte : IsByte letter) {room : List ℕ} {places : ℕ} 
           rw f (stopped_then (c depth (rw f at l)) e (λ y s b. making (places_of room) choice_kind x y s b))
 
     -- It came to x; `other` is a place that stood before.
-    module _ {x taken rest : ℕ} (e : first ≡ At x taken rest) (other : ℕ) (there : other < places) where
+    module _ {x taken rest : ℕ} (e : first ≡ At rest x taken) (other : ℕ) (there : other < places) where
       ready : Ready (places_of room₁) (store_in room₁ taken)
       ready = room_ready (first_next e).good
 
@@ -305,7 +305,7 @@ module _ (letter : ℕ) (byte : IsByte letter) {room : List ℕ} {places : ℕ} 
 
 -- The right part is not asked for.
 pub right_unasked : (letter : ℕ) {room : List ℕ} {places : ℕ} → GoodStore room places → (x right budget : ℕ) {both : Bool} → both ≡ false
-    → DerivesRight letter room places x right both budget (At x places budget) room
+    → DerivesRight letter room places x right both budget (At budget x places) room
 right_unasked letter good x right budget e depth l = rw e (derived_here good x budget)
 
 -- No product is asked for.
@@ -424,7 +424,7 @@ module _ (letter : ℕ) {room : List ℕ} {places : ℕ} (good : GoodStore room 
                 (kind_of (child (store_in room places) place).kind),
           ) c
 
-      pub visited_leaf : {next : ℕ} → v ≡ Leaf next → Derives letter room places place budget (At next places (budget - fee)) room
+      pub visited_leaf : {next : ℕ} → v ≡ Leaf next → Derives letter room places place budget (At (budget - fee) next places) room
       visited_leaf {next} e = visited (λ depth l. rw e (derived_here good next (budget - fee)))
 
       pub visited_parts : {left right : ℕ} {product both : Bool} → v ≡ Parts left right product both → {answer : Derived} {exit : List ℕ}

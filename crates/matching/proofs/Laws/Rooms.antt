@@ -88,12 +88,12 @@ module _ {room₀ : List ℕ} {places place : ℕ} {word : List ℕ} {budget : �
   store_now = ap₂ store_in u.room_is u.taken_is ∙ store_after room₀ u.kept
 
   -- Where no letter is left, the place reached is the answer.
-  pub at_last : length word ≤ at → Comes room₀ (following_in room₀ places place word budget) (At here taken left) room
+  pub at_last : length word ≤ at → Comes room₀ (following_in room₀ places place word budget) (At left here taken) room
   unfolding follow
   at_last l =
       let e : drop at word ≡ [] = drop_of_length-le word {i = at} l in
       let f : following_in room₀ places place word budget ≡ derived here store left = u.rest ∙ ap (λ (w : List ℕ). follow cap w here store left) e in
-      rw f (record { answers = ap (λ (n : ℕ). At here n left) u.taken_is; leaves = u.room_is })
+      rw f (record { answers = ap (λ (n : ℕ). At left here n) u.taken_is; leaves = u.room_is })
 
   -- One step, by the letter numbered `at`.
   module _ (l : at < length word) (byte : get_or word at 0 < 256) {stepped : Derived} {room₁ : List ℕ}
@@ -143,7 +143,7 @@ module _ {room₀ : List ℕ} {places place : ℕ} {word : List ℕ} {budget : �
           rest = rw add-one (goes_on ∙ ap (λ (d : Deriving). and_then d onward) s.is);
         }
 
-    pub when_derived : {next taken' left' : ℕ} → stepped ≡ At next taken' left'
+    pub when_derived : {next taken' left' : ℕ} → stepped ≡ At left' next taken'
         → Underway room₀ places place word budget room₁ next taken' left' (at + 1)
     when_derived e = stepped_on (stands {room = room} {places = taken} (rw (places_now, store_now) keeps) comes e)
 
@@ -179,7 +179,7 @@ module _ {room : List ℕ} {places place : ℕ} {word : List ℕ} {budget : ℕ}
       omega (arith, follow_visits w.letters (places_of room) place (store_in room places) budget (in_store room w.inside) (room_ready w.good))
 
   -- A place was reached: its mark can be read, and says the answer.
-  module _ {last taken left : ℕ} (e : end ≡ At last taken left) where
+  module _ {last taken left : ℕ} (e : end ≡ At left last taken) where
     reached : Stood room places whole last taken left room₁
     reached = stands followed_keeps w.comes e
 
