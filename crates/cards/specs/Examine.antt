@@ -6,8 +6,8 @@
 use Rattle.std.specs.Prelude.{ℕ, suc, ◌/◌, ◌%◌, Bool, cond, not, ◌&&◌, ◌||◌, List, [], ◌∷◌, eqb, ltb, length}
 use Rattle.records.specs.declared.kind.Columns.{Columns}
 use Rattle.records.specs.declared.record.Record.{Record}
-use Rattle.refusals.specs.declared.Standing.{Standing}
-use Rattle.refusals.specs.declared.Standing.TheVariants.{Good}
+use Rattle.refusals.specs.Order.{Standing}
+use Rattle.refusals.specs.Order.{Good}
 use Rattle.refusals.specs.Order.{◌then◌, refused_if}
 use Rattle.refusals.specs.Numbers.{card_length, broken_record, wrong_mark}
 use Rattle.refusals.specs.Limits.{most_pattern_records, most_proof_records}

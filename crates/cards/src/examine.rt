@@ -1,46 +1,40 @@
 // Examining a card: refusals 1, 2 and 3, for any bytes.
 ghost use Rattle.std.specs.Prelude.{◌≡◌, ◌+◌, ◌*◌, ◌≤◌, eqb, length};
+ghost use Rattle.refusals.specs.Told.{standing_told};
 ghost use Rattle.records.specs.Record.{records, child, record_at};
 ghost use Rattle.cards.specs.Mark.{bit, marked, has_empty};
 ghost use Rattle.cards.specs.Examine.{wrong_length, letter_field, child_field, obeys_line, obeys, mark_right, record_standing, examined, pattern_card, proof_card};
 
-use records::kind::{Columns, Kind, columns_of, named};
+use records::kind::{Columns, Kind, columns_of};
 use records::record::{RECORD, Record, read};
-use refusals::Standing;
 use refusals::limits::{MOST_PATTERN_RECORDS, MOST_PROOF_RECORDS};
-use refusals::numbers::{BROKEN_RECORD, CARD_LENGTH, WRONG_MARK};
+use refusals::refusal::Refusal;
 
 // A pattern card.
-pub fn examine_pattern(card: &[u8]) -> Standing
-    ensures { result ≡ pattern_card card.now }
+pub fn examine_pattern(card: &[u8]) -> Result<(), Refusal>
+    ensures { standing_told result ≡ pattern_card card.now }
 {
     examine(card, MOST_PATTERN_RECORDS)
 }
 
 // A proof card.
-pub fn examine_proof(card: &[u8]) -> Standing
-    ensures { result ≡ proof_card card.now }
+pub fn examine_proof(card: &[u8]) -> Result<(), Refusal>
+    ensures { standing_told result ≡ proof_card card.now }
 {
     examine(card, MOST_PROOF_RECORDS)
 }
 
 // Any bytes, as a card of at most so many records.
-pub fn examine(card: &[u8], most: usize) -> Standing
-    ensures { result ≡ examined most card.now }
+pub fn examine(card: &[u8], most: usize) -> Result<(), Refusal>
+    ensures { standing_told result ≡ examined most card.now }
 {
     if wrong_length(card.len(), most) {
-        return Standing::Refused(CARD_LENGTH);
+        return Err(Refusal::CardLength);
     }
-    let count = card.len() / RECORD;
-    let mut at = 0;
-    while at < count {
-        let found = examine_record(card, at);
-        if let Standing::Refused(number) = found {
-            return Standing::Refused(number);
-        }
-        at += 1;
+    for at in 0..card.len() / RECORD {
+        examine_record(card, at)?;
     }
-    Standing::Good
+    Ok(())
 }
 
 // Number 1, of a card of so many bytes.
@@ -51,25 +45,25 @@ fn wrong_length(size: usize, most: usize) -> bool
 }
 
 // One record: 2 before 3.
-fn examine_record(card: &[u8], at: usize) -> Standing
+fn examine_record(card: &[u8], at: usize) -> Result<(), Refusal>
     requires { 8 * at + 8 ≤ length card.now }
-    ensures { result ≡ record_standing (records card.now) at (record_at card.now at) }
+    ensures { standing_told result ≡ record_standing (records card.now) at (record_at card.now at) }
 {
     let r = read(card, at);
     if !obeys(at, r) {
-        return Standing::Refused(BROKEN_RECORD);
+        return Err(Refusal::BrokenRecord);
     }
     if !mark_right(card, r) {
-        return Standing::Refused(WRONG_MARK);
+        return Err(Refusal::WrongMark);
     }
-    Standing::Good
+    Ok(())
 }
 
 // Number 2 otherwise.
 fn obeys(at: usize, r: Record) -> bool
     ensures { result ≡ obeys at r }
 {
-    (r.fourth == 0) & obeys_line(columns_of(named(r.kind)), at, r)
+    (r.fourth == 0) & obeys_line(columns_of(Kind::from(r.kind)), at, r)
 }
 
 // A line of the kind table, for the record numbered `at`.
@@ -106,7 +100,7 @@ fn mark_right(card: &[u8], r: Record) -> bool
 {
     let left = marked_at(card, r.left as usize);
     let right = marked_at(card, r.right as usize);
-    same_mark(r.mark, as_mark(has_empty(named(r.kind), left, right)))
+    same_mark(r.mark, as_mark(has_empty(Kind::from(r.kind), left, right)))
 }
 
 // Whether a mark is the one wanted.
@@ -147,5 +141,5 @@ pub fn has_empty(kind: Kind, left: bool, right: bool) -> bool
 pub fn as_mark(says: bool) -> u8
     ensures { result ≡ bit says }
 {
-    if says { 1 } else { 0 }
+    u8::from(says)
 }

@@ -3,21 +3,18 @@ ghost use Rattle.std.specs.Prelude.{◌≡◌};
 ghost use Rattle.records.specs.Record.{records};
 ghost use Rattle.cards.specs.Letters.{letter_of, mentions};
 
-use records::kind::{Kind, columns_of, named};
+use records::kind::{Kind, columns_of};
 use records::record::{RECORD, read};
 
 // Whether some letter record of the card has the letter.
 pub fn mentions(card: &[u8], letter: u8) -> bool
     ensures { result ≡ mentions (records card.now) letter }
 {
-    let count = card.len() / RECORD;
-    let mut at = 0;
-    while at < count {
+    for at in 0..card.len() / RECORD {
         let r = read(card, at);
-        if letter_of(named(r.kind), r.letter, letter) {
+        if letter_of(Kind::from(r.kind), r.letter, letter) {
             return true;
         }
-        at += 1;
     }
     false
 }

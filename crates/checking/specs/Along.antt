@@ -4,8 +4,8 @@
 use Rattle.std.specs.Prelude.{ℕ, suc, ◌+◌, ◌-◌, ◌/◌, true, false, List, [], ◌∷◌}
 use Rattle.std.specs.Bool.{beq}
 use Rattle.records.specs.declared.record.Record.{Record}
-use Rattle.refusals.specs.declared.Standing.{Standing}
-use Rattle.refusals.specs.declared.Standing.TheVariants.{Good, Refused}
+use Rattle.refusals.specs.Order.{Standing}
+use Rattle.refusals.specs.Order.{Good, Refused}
 use Rattle.records.specs.Record.{records, child}
 use Rattle.cards.specs.Mark.{marked}
 use Rattle.loading.specs.Loading.{Loading, loaded, no_room, load}

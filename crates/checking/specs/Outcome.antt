@@ -6,8 +6,8 @@ use Rattle.std.specs.Prelude.{ℕ, ◌-◌, ◌/◌, Bool, true, not, ◌&&◌, 
 use Rattle.answers.specs.Checking.{Verdict, is_accepted, is_rejected, refused_by, Told}
 use Rattle.records.specs.declared.record.Record.{Record}
 use Rattle.records.specs.Record.{records}
-use Rattle.refusals.specs.declared.Standing.{Standing}
-use Rattle.refusals.specs.declared.Standing.TheVariants.{Good, Refused}
+use Rattle.refusals.specs.Order.{Standing}
+use Rattle.refusals.specs.Order.{Good, Refused}
 use Rattle.refusals.specs.Numbers.{work_room_size, pair_room_size, no_free_place, pair_names_no_record}
 use Rattle.refusals.specs.Order.{first_refusal, refused_if}
 use Rattle.cards.specs.Examine.{pattern_card, proof_card}

@@ -5,7 +5,7 @@ use Rattle.answers.specs.declared.Checked.{Checked}
 use Rattle.answers.specs.Checking.{at_marks, told}
 use Rattle.answers.specs.Laws.Checking.{answer_told}
 use Rattle.records.specs.declared.record.Record.{Record}
-use Rattle.refusals.specs.declared.Standing.TheVariants.{Good}
+use Rattle.refusals.specs.Order.{Good}
 use Rattle.records.specs.Record.{child}
 use Rattle.cards.specs.Mark.{marked}
 use Rattle.cards.specs.Examine.{proof_card}

@@ -1,7 +1,7 @@
 -- The visits of a comparison are those of its search; a call that comes to no search makes none.
 use Rattle.std.specs.Prelude.{ℕ, ◌/◌, List}
-use Rattle.refusals.specs.declared.Standing.{Standing}
-use Rattle.refusals.specs.declared.Standing.TheVariants.{Good, Refused}
+use Rattle.refusals.specs.Order.{Standing}
+use Rattle.refusals.specs.Order.{Good, Refused}
 use Rattle.records.specs.Record.{records}
 use Rattle.pairs.specs.Tried.{tried}
 use Rattle.pairs.specs.Opening.{Opening, opened, unopened, open_both}

@@ -6,8 +6,8 @@
 use Rattle.std.specs.Prelude.{ℕ, ◌-◌, ◌/◌, Bool, true, false, List, [], ◌∷◌, ltb, length}
 use Rattle.answers.specs.Comparing.{Verdict, are_same, are_different, refused_by, word_room_short, Told}
 use Rattle.records.specs.declared.record.Record.{Record}
-use Rattle.refusals.specs.declared.Standing.{Standing}
-use Rattle.refusals.specs.declared.Standing.TheVariants.{Good, Refused}
+use Rattle.refusals.specs.Order.{Standing}
+use Rattle.refusals.specs.Order.{Good, Refused}
 use Rattle.records.specs.Record.{records}
 use Rattle.cards.specs.Examine.{pattern_card}
 use Rattle.refusals.specs.Numbers.{work_room_size, pair_room_size, no_free_place, short_word_room}

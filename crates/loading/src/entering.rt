@@ -1,6 +1,6 @@
 // Entering a pattern card into a store: its records loaded, and the place of its root.
 ghost use Rattle.std.specs.Prelude.{◌≡◌};
-ghost use Rattle.refusals.specs.declared.Standing.TheVariants.{Good};
+ghost use Rattle.refusals.specs.Order.{Good};
 ghost use Rattle.records.specs.Record.{records};
 ghost use Rattle.cards.specs.Examine.{pattern_card};
 ghost use Rattle.store.specs.Room.{store_in, places_of};

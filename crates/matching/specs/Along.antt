@@ -1,8 +1,8 @@
 -- The visits of following a word: the sum of `visits` over the derivations done, along the places reached, and those made in one that stopped.
 use Rattle.std.specs.Prelude.{ℕ, ◌+◌, ◌-◌, ◌/◌, List, [], ◌∷◌}
 use Rattle.records.specs.declared.record.Record.{Record}
-use Rattle.refusals.specs.declared.Standing.{Standing}
-use Rattle.refusals.specs.declared.Standing.TheVariants.{Good, Refused}
+use Rattle.refusals.specs.Order.{Standing}
+use Rattle.refusals.specs.Order.{Good, Refused}
 use Rattle.records.specs.Record.{records}
 use Rattle.store.specs.Room.{fresh_store}
 use Rattle.loading.specs.Loading.{root, Loading, loaded, no_room, load}

@@ -3,7 +3,7 @@
 --   5  work room under 16 bytes, over 32,768, or not a multiple of 8
 -- "Order: .. left card, .. (each 1 first, then record by record, 2 before 3), then 4, 5".
 use Rattle.std.specs.Prelude.{ℕ, List, [], ◌∷◌, ltb, length}
-use Rattle.refusals.specs.declared.Standing.{Standing}
+use Rattle.refusals.specs.Order.{Standing}
 use Rattle.refusals.specs.Numbers.{long_word, work_room_size}
 use Rattle.refusals.specs.Limits.{most_word}
 use Rattle.refusals.specs.Order.{first_refusal, refused_if}

@@ -1,6 +1,6 @@
 -- What the code answers, of what opening comes to. Named by inner contracts alone.
 use Rattle.std.specs.Prelude.{ℕ, false, List, ◌≡◌, length}
-use Rattle.refusals.specs.declared.Standing.TheVariants.{Good}
+use Rattle.refusals.specs.Order.{Good}
 use Rattle.cards.specs.Examine.{pattern_card}
 use Rattle.store.specs.Room.{laid, wrong_room}
 use Rattle.pairs.specs.declared.opening.Opened.{Opened}

@@ -2,42 +2,32 @@
 ghost use Rattle.std.specs.Prelude.{◌≡◌};
 ghost use Rattle.records.specs.Kind.{kind_of, line, columns};
 
-#[derive(Clone, Copy)]
+// The kinds have their numbers in the table; `Unknown` is of every other number.
+#[derive(Clone, Copy, PartialEq, Eq)]
 pub enum Kind {
-    Nothing,
-    EmptyWord,
-    Letter,
-    Choice,
-    Sequence,
-    Repeat,
-    Unknown,
+    Nothing = 0,
+    EmptyWord = 1,
+    Letter = 2,
+    Choice = 3,
+    Sequence = 4,
+    Repeat = 5,
+    Unknown = 6,
 }
 
-// The numbers of the kinds.
-pub const NOTHING: u8 = 0;
-
-pub const EMPTY_WORD: u8 = 1;
-
-pub const LETTER: u8 = 2;
-
-pub const CHOICE: u8 = 3;
-
-pub const SEQUENCE: u8 = 4;
-
-pub const REPEAT: u8 = 5;
-
 // The kind that a number names.
-pub fn named(number: u8) -> Kind
-    ensures { result ≡ kind_of number }
-{
-    match number {
-        NOTHING => Kind::Nothing,
-        EMPTY_WORD => Kind::EmptyWord,
-        LETTER => Kind::Letter,
-        CHOICE => Kind::Choice,
-        SEQUENCE => Kind::Sequence,
-        REPEAT => Kind::Repeat,
-        _ => Kind::Unknown,
+impl From<u8> for Kind {
+    ghost from_gives = { λ number kind. kind ≡ kind_of number };
+
+    fn from(number: u8) -> Kind {
+        match number {
+            0 => Kind::Nothing,
+            1 => Kind::EmptyWord,
+            2 => Kind::Letter,
+            3 => Kind::Choice,
+            4 => Kind::Sequence,
+            5 => Kind::Repeat,
+            _ => Kind::Unknown,
+        }
     }
 }
 

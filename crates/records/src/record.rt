@@ -37,14 +37,11 @@ pub fn read(run: &[u8], at: usize) -> Record
 pub fn number(r: Record) -> u64
     ensures { result ≡ number_of r }
 {
-    (r.kind as u64)
-        + 256
-            * ((r.letter as u64)
-                + 256
-                    * ((r.mark as u64)
-                        + 256
-                            * ((r.fourth as u64)
-                                + 256 * ((r.left as u64) + 65536 * (r.right as u64)))))
+    let [left, left_high] = r.left.to_le_bytes();
+    let [right, right_high] = r.right.to_le_bytes();
+    u64::from_le_bytes([
+        r.kind, r.letter, r.mark, r.fourth, left, left_high, right, right_high,
+    ])
 }
 
 // The 8 bytes of the record numbered `at`, as one number.
@@ -53,7 +50,7 @@ pub fn number_at(run: &[u8], at: usize) -> u64
     ensures { result ≡ number_of (record_at run.now at) }
 {
     let start = RECORD * at;
-    eight(
+    u64::from_le_bytes([
         run[start],
         run[start + 1],
         run[start + 2],
@@ -62,21 +59,7 @@ pub fn number_at(run: &[u8], at: usize) -> u64
         run[start + 5],
         run[start + 6],
         run[start + 7],
-    )
-}
-
-// Eight bytes as one number, low byte first.
-fn eight(a: u8, b: u8, c: u8, d: u8, e: u8, f: u8, g: u8, h: u8) -> u64
-    ensures { result ≡ a + 256 * b + 65536 * c + 16777216 * d + 4294967296 * e + 1099511627776 * f + 281474976710656 * g + 72057594037927936 * h }
-{
-    (a as u64)
-        + 256 * (b as u64)
-        + 65536 * (c as u64)
-        + 16777216 * (d as u64)
-        + 4294967296 * (e as u64)
-        + 1099511627776 * (f as u64)
-        + 281474976710656 * (g as u64)
-        + 72057594037927936 * (h as u64)
+    ])
 }
 
 // Lays a record down at the start of a part of a room.

@@ -1,8 +1,11 @@
 -- The order of refusals: of several standings the first that is not good is told.
 -- Document 01: "Order: 12, then left card, right card, proof card (each 1 first, then record by record, 2 before 3), then 4, 5, 6, 11."
 use Rattle.std.specs.Prelude.{ℕ, Bool, true, false, List, [], ◌∷◌}
-use Rattle.refusals.specs.declared.Standing.{Standing}
-use Rattle.refusals.specs.declared.Standing.TheVariants.{Good, Refused}
+
+-- A standing is good, or refused by a number.
+pub data Standing : Type 0 where
+  Good : Standing
+  Refused : (number : ℕ) → Standing
 
 infixr 30 ◌then◌
 -- The first refusal of two, in this order; good standing if there is none.

@@ -5,7 +5,7 @@ ghost use Rattle.std.specs.Prelude.{◌≡◌, ◌+◌, ◌*◌, ◌/◌, ◌%�
 pub fn joined(low: u8, high: u8) -> u16
     ensures { result ≡ low + 256 * high }
 {
-    (low as u16) + 256 * (high as u16)
+    u16::from_le_bytes([low, high])
 }
 
 // Lays the two bytes of a number down, the first of them at `at`.
@@ -13,6 +13,7 @@ pub fn lay_two(part: &mut [u8], at: usize, number: u16)
     requires { at + 1 < length part.old }
     ensures { part.new ≡ set (set part.old at (number % 256)) (at + 1) (number / 256) }
 {
-    part[at] = (number % 256) as u8;
-    part[at + 1] = (number / 256) as u8;
+    let [low, high] = number.to_le_bytes();
+    part[at] = low;
+    part[at + 1] = high;
 }

@@ -11,8 +11,8 @@ use Rattle.language.proofs.Laws.Derivative.{nullable_right}
 use Rattle.records.specs.declared.kind.Kind.{Kind}
 use Rattle.records.specs.declared.kind.Kind.TheVariants.{Nothing, EmptyWord, Letter, Choice, Sequence, Repeat, Unknown}
 use Rattle.records.specs.declared.record.Record.{Record}
-use Rattle.refusals.specs.declared.Standing.{Standing}
-use Rattle.refusals.specs.declared.Standing.TheVariants.{Good, Refused}
+use Rattle.refusals.specs.Order.{Standing}
+use Rattle.refusals.specs.Order.{Good, Refused}
 use Rattle.records.specs.Record.{records, child, no_record}
 use Rattle.records.specs.Kind.{kind_of, columns}
 use Rattle.cards.specs.Mark.{bit, marked, has_empty}

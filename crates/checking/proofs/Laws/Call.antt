@@ -8,8 +8,8 @@ use Rattle.answers.specs.declared.Checked.TheVariants.{Refused as RefusedCheck}
 use Rattle.answers.specs.Checking.{told}
 use Rattle.language.specs.Word.{Bytes}
 use Rattle.records.specs.declared.record.Record.{Record}
-use Rattle.refusals.specs.declared.Standing.{Standing}
-use Rattle.refusals.specs.declared.Standing.TheVariants.{Good, Refused}
+use Rattle.refusals.specs.Order.{Standing}
+use Rattle.refusals.specs.Order.{Good, Refused}
 use Rattle.refusals.specs.Numbers.{no_free_place}
 use Rattle.records.specs.Record.{records, run_of}
 use Rattle.store.specs.Room.{store_in, places_of, laid, fresh_store}

@@ -8,8 +8,8 @@ use Rattle.language.specs.Word.{Bytes}
 use Rattle.language.specs.Language.{language, Equal}
 use Rattle.language.proofs.Laws.Equality.{equal_trans}
 use Rattle.records.specs.declared.record.Record.{Record}
-use Rattle.refusals.specs.declared.Standing.{Standing}
-use Rattle.refusals.specs.declared.Standing.TheVariants.{Good, Refused}
+use Rattle.refusals.specs.Order.{Standing}
+use Rattle.refusals.specs.Order.{Good, Refused}
 use Rattle.refusals.specs.Numbers.{no_free_place, no_budget_left}
 use Rattle.records.specs.Record.{records}
 use Rattle.cards.specs.Meaning.{card_pattern}

@@ -10,7 +10,7 @@ use Rattle.answers.specs.Checking.{told}
 use Rattle.answers.proofs.Laws.Checking.{tells_so}
 use Rattle.language.specs.Word.{Bytes}
 use Rattle.records.specs.declared.record.Record.{Record}
-use Rattle.refusals.specs.declared.Standing.TheVariants.{Good}
+use Rattle.refusals.specs.Order.{Good}
 use Rattle.refusals.specs.Numbers.{no_free_place}
 use Rattle.refusals.specs.Limits.{most_proof_records}
 use Rattle.records.specs.Record.{records}

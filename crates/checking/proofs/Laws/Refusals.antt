@@ -4,7 +4,7 @@ use Rattle.std.specs.Prelude.{ℕ, zero, suc, ◌/◌, ◌<◌, ◌≤◌, Bool,
 use Rattle.std.proofs.Common.{arith, sym, ltb-true, lt-ltb}
 use Rattle.language.specs.Word.{Bytes}
 use Rattle.language.proofs.Laws.Tests.{and_left, and_right, and_both}
-use Rattle.refusals.specs.declared.Standing.TheVariants.{Good, Refused}
+use Rattle.refusals.specs.Order.{Good, Refused}
 use Rattle.refusals.specs.Numbers.{work_room_size, pair_room_size, pair_names_no_record}
 use Rattle.refusals.specs.Limits.{most_pattern_records, most_proof_records}
 use Rattle.refusals.specs.Laws.Order.{each_good, order_tells, not_refused, if_tells}

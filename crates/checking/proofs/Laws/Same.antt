@@ -10,8 +10,8 @@ use Rattle.answers.specs.Checking.{is_accepted}
 use Rattle.language.specs.Word.{Bytes}
 use Rattle.language.specs.Language.{Language, language}
 use Rattle.records.specs.declared.record.Record.{Record}
-use Rattle.refusals.specs.declared.Standing.{Standing}
-use Rattle.refusals.specs.declared.Standing.TheVariants.{Good as GoodStanding, Refused}
+use Rattle.refusals.specs.Order.{Standing}
+use Rattle.refusals.specs.Order.{Good as GoodStanding, Refused}
 use Rattle.records.specs.Record.{records, run_of}
 use Rattle.cards.specs.Examine.{pattern_card}
 use Rattle.cards.specs.Meaning.{card_pattern}

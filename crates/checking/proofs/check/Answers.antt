@@ -6,7 +6,7 @@ use mathlib.Core.List.{List}
 use mathlib.Core.Path.{◌≡◌, ap}
 use lib.ListN.{length, take, length-take}
 use Rattle.std.proofs.Common.{◌<◌, get_or}
-use Rattle.refusals.specs.declared.Standing.{Standing}
+use Rattle.refusals.specs.Order.{Standing}
 use Rattle.checking.specs.Outcome.{check_standing}
 use Rattle.language.proofs.Laws.Words.{bytes_all}
 use Rattle.checking.proofs.Laws.Call.{Lent, refused_at_once, can_open, full_in_opening, opened_ready, checked_opened}

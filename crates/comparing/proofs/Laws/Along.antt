@@ -3,8 +3,8 @@
 use Rattle.std.specs.Prelude.{ℕ, ◌+◌, ◌-◌, ◌/◌, Bool, true, false, List, ◌≡◌, refl, ltb, length}
 use Rattle.std.proofs.Common.{arith}
 use Rattle.language.specs.Word.{Bytes}
-use Rattle.refusals.specs.declared.Standing.{Standing}
-use Rattle.refusals.specs.declared.Standing.TheVariants.{Good, Refused}
+use Rattle.refusals.specs.Order.{Standing}
+use Rattle.refusals.specs.Order.{Good, Refused}
 use Rattle.pairs.specs.Tried.{tried}
 use Rattle.pairs.specs.Opening.{Opening}
 use Rattle.pairs.specs.Laws.Tried.{tried_bytes}

@@ -8,8 +8,8 @@ use Rattle.language.specs.Language.{Language, language}
 use Rattle.language.proofs.Laws.Words.{over_wider}
 use Rattle.language.proofs.Laws.StandIn.{equal_of_tried}
 use Rattle.records.specs.declared.record.Record.{Record}
-use Rattle.refusals.specs.declared.Standing.{Standing}
-use Rattle.refusals.specs.declared.Standing.TheVariants.{Good, Refused}
+use Rattle.refusals.specs.Order.{Standing}
+use Rattle.refusals.specs.Order.{Good, Refused}
 use Rattle.cards.specs.Examine.{pattern_card}
 use Rattle.cards.specs.Meaning.{card_pattern}
 use Rattle.store.specs.Room.{wrong_room}

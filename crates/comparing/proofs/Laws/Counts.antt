@@ -11,8 +11,8 @@ use Rattle.machine.specs.Laws.Outcome.{of_search as machine-of-search}
 use Rattle.machine.specs.Laws.Outcome as machine-outcome
 use Rattle.machine.specs.Laws.Enough.{told_kept, refused_halts}
 use Rattle.records.specs.declared.record.Record.{Record}
-use Rattle.refusals.specs.declared.Standing.{Standing}
-use Rattle.refusals.specs.declared.Standing.TheVariants.{Good, Refused}
+use Rattle.refusals.specs.Order.{Standing}
+use Rattle.refusals.specs.Order.{Good, Refused}
 use Rattle.store.specs.Room.{fresh_store}
 use Rattle.store.specs.Laws.Wall.{Ready}
 use Rattle.store.proofs.Laws.Wall.{Filled}

@@ -11,8 +11,8 @@ use Rattle.machine.specs.Laws.Outcome.{of_search as machine-of-search, written_f
 use Rattle.machine.specs.Laws.Outcome as machine-outcome
 use Rattle.machine.specs.Laws.Enough.{final_says, AlsoOutcome, also_told, just_enough as just-enough-told, told_kept}
 use Rattle.records.specs.declared.record.Record.{Record}
-use Rattle.refusals.specs.declared.Standing.{Standing}
-use Rattle.refusals.specs.declared.Standing.TheVariants.{Good, Refused}
+use Rattle.refusals.specs.Order.{Standing}
+use Rattle.refusals.specs.Order.{Good, Refused}
 use Rattle.records.specs.Record.{records}
 use Rattle.store.specs.Room.{wrong_room}
 use Rattle.store.proofs.Laws.Wall.{grows_length}

@@ -2,7 +2,7 @@
 use Rattle.std.specs.Prelude.{ℕ, ◌≤◌, false, List, ◌≡◌}
 use native.Mathlib.Omega.{arith}
 use Rattle.refusals.specs.Limits.{most_pattern_records}
-use Rattle.refusals.specs.declared.Standing.TheVariants.{Good, Refused}
+use Rattle.refusals.specs.Order.{Good, Refused}
 use Rattle.refusals.specs.Numbers.{work_room_size, pair_room_size}
 use Rattle.refusals.specs.Laws.Order.{each_good, order_tells, not_refused, if_tells}
 use Rattle.cards.specs.Examine.{pattern_card}

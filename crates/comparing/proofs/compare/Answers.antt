@@ -2,7 +2,7 @@
 -- told is true.
 use native.Mathlib.Omega.{arith}
 use Rattle.std.proofs.Common.{ℕ, ◌<◌, ◌≡◌, List, get_or, length}
-use Rattle.refusals.specs.declared.Standing.{Standing}
+use Rattle.refusals.specs.Order.{Standing}
 use Rattle.comparing.specs.Compare.{compare_standing}
 use Rattle.language.proofs.Laws.Words.{bytes_all}
 use Rattle.pairs.specs.Laws.Tried.{tried_few}

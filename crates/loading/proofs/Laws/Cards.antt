@@ -4,7 +4,7 @@ use Rattle.std.proofs.Common.{arith, subst}
 use Rattle.language.specs.Word.{Bytes}
 use Rattle.language.specs.Language.{language, Equal}
 use Rattle.records.specs.declared.record.Record.{Record}
-use Rattle.refusals.specs.declared.Standing.TheVariants.{Good}
+use Rattle.refusals.specs.Order.{Good}
 use Rattle.records.specs.Record.{records}
 use Rattle.cards.specs.Examine.{examined, pattern_card}
 use Rattle.refusals.specs.Limits.{most_pattern_records}

@@ -6,7 +6,7 @@ use Rattle.std.proofs.Math.Path.{sym}
 use Rattle.language.specs.Word.{none, Bytes}
 use Rattle.language.proofs.Laws.Words.{front_over}
 use Rattle.records.specs.declared.record.Record.{Record}
-use Rattle.refusals.specs.declared.Standing.TheVariants.{Good as InGoodStanding}
+use Rattle.refusals.specs.Order.{Good as InGoodStanding}
 use Rattle.records.specs.Record.{run_of}
 use Rattle.cards.specs.Examine.{proof_card}
 use Rattle.refusals.specs.Limits.{most_proof_records, most_places}

@@ -8,8 +8,8 @@ use Rattle.answers.specs.declared.Match.TheVariants.{Refused as RefusedMatch}
 use Rattle.language.specs.Word.{Bytes}
 use Rattle.records.specs.declared.record.Record.{Record}
 use Rattle.records.specs.Record.{records, run_of}
-use Rattle.refusals.specs.declared.Standing.{Standing}
-use Rattle.refusals.specs.declared.Standing.TheVariants.{Good, Refused}
+use Rattle.refusals.specs.Order.{Standing}
+use Rattle.refusals.specs.Order.{Good, Refused}
 use Rattle.refusals.specs.Numbers.{no_free_place}
 use Rattle.cards.specs.Examine.{pattern_card}
 use Rattle.store.specs.Room.{store_in, places_of, laid, fresh_store}

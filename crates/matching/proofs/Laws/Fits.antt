@@ -11,8 +11,8 @@ use Rattle.language.proofs.Laws.Quotient.{Quotients, quotients_to, quotients_fro
 use Rattle.language.specs.Laws.Derivative.{nullable}
 use Rattle.language.proofs.Laws.Derivative.{nullable_right}
 use Rattle.records.specs.declared.record.Record.{Record}
-use Rattle.refusals.specs.declared.Standing.{Standing}
-use Rattle.refusals.specs.declared.Standing.TheVariants.{Good, Refused}
+use Rattle.refusals.specs.Order.{Standing}
+use Rattle.refusals.specs.Order.{Good, Refused}
 use Rattle.refusals.specs.Numbers.{no_free_place, no_budget_left}
 use Rattle.records.specs.Record.{records, child}
 use Rattle.cards.specs.Mark.{marked}

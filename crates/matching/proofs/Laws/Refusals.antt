@@ -1,7 +1,7 @@
 -- A call of matching that is not refused at once, and the numbers by which one is: the laws of any order of refusals, of matching's.
 use Rattle.std.specs.Prelude.{ℕ, ◌≤◌, false, List, ◌≡◌, ltb, length}
 use native.Mathlib.Omega.{arith}
-use Rattle.refusals.specs.declared.Standing.TheVariants.{Good, Refused}
+use Rattle.refusals.specs.Order.{Good, Refused}
 use Rattle.refusals.specs.Numbers.{long_word, work_room_size}
 use Rattle.refusals.specs.Limits.{most_pattern_records, most_word}
 use Rattle.refusals.specs.Laws.Order.{each_good, order_tells, not_refused, if_tells}

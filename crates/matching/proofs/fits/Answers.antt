@@ -2,7 +2,7 @@
 -- as the definition follows the word, and what is so told is true.
 use Rattle.matching.specs.Refusals.{standing_of}
 use Rattle.std.proofs.Common.{ℕ, ◌<◌, ◌≡◌, List, get_or, length}
-use Rattle.refusals.specs.declared.Standing.{Standing}
+use Rattle.refusals.specs.Order.{Standing}
 use Rattle.language.proofs.Laws.Words.{bytes_all}
 use Rattle.matching.proofs.Laws.Call.{Lent, refused_at_once, enough, can_enter, full_in_loading, entered_well, judged_entered}
 use Rattle.matching.proofs.fits.Goals as goal

@@ -7,7 +7,7 @@ use Rattle.language.specs.Word.{Bytes}
 use Rattle.language.specs.Language.{language, Equal}
 use Rattle.language.proofs.Laws.Equality.{equal_trans}
 use Rattle.records.specs.declared.record.Record.{Record}
-use Rattle.refusals.specs.declared.Standing.TheVariants.{Good}
+use Rattle.refusals.specs.Order.{Good}
 use Rattle.records.specs.Record.{records}
 use Rattle.cards.specs.Examine.{pattern_card}
 use Rattle.cards.specs.Meaning.{card_pattern}

@@ -7,7 +7,7 @@ use Rattle.std.proofs.Math.Path.{ap}
 use Rattle.std.proofs.Math.ListN.{length}
 use Rattle.language.specs.Word.{Bytes}
 use Rattle.records.specs.declared.record.Record.{Record}
-use Rattle.refusals.specs.declared.Standing.TheVariants.{Good}
+use Rattle.refusals.specs.Order.{Good}
 use Rattle.records.specs.Record.{records}
 use Rattle.cards.specs.Examine.{pattern_card}
 use Rattle.loading.specs.declared.entering.Entered.{Entered}

@@ -2,8 +2,8 @@
 -- not. A call says its standings; what it means that all are good, or which number is told, follows from these laws.
 use Rattle.std.specs.Prelude.{ℕ, suc, ◌<◌, Bool, true, false, List, [], ◌∷◌, ◌≡◌, refl, length, get_or, take}
 use Rattle.std.proofs.Common.{arith, subst}
-use Rattle.refusals.specs.declared.Standing.{Standing}
-use Rattle.refusals.specs.declared.Standing.TheVariants.{Good, Refused}
+use Rattle.refusals.specs.Order.{Standing}
+use Rattle.refusals.specs.Order.{Good, Refused}
 use Rattle.refusals.specs.Order.{first_refusal, refused_if}
 
 -- Something holds of each standing of an order. Of an order that is written out this is a pair of the first and the rest, and `tt` at the end.

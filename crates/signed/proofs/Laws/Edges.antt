@@ -3,7 +3,7 @@
 use Rattle.std.specs.Prelude.{ℕ, ◌≤◌, true, false, List, [], ◌∷◌, ◌++◌, ◌≡◌, refl, replicate}
 use Rattle.std.proofs.Common.{arith, lit≤}
 use Rattle.language.specs.Language.{nothing as 𝟘, empty_word as 𝟙}
-use Rattle.refusals.specs.declared.Standing.TheVariants.{Refused}
+use Rattle.refusals.specs.Order.{Refused}
 use Rattle.records.specs.Record.{record_of, bytes_of, run_of}
 use Rattle.store.specs.Room.{laid}
 use Rattle.store.specs.Making.{make}

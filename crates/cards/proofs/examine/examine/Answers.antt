@@ -1,16 +1,18 @@
 -- `examine` tells the first refusal: the records passed are in good standing, so what the definition says of the whole card is
--- what it says of the records from `at` on. The measure is the number of records that are left.
+-- what it says of the records from `at` on.
 use Prim.Native.Nat.{ℕ, suc, ◌+◌, ◌/◌, ◌<◌}
 use native.Mathlib.Numerals.{add-one}
 use native.Mathlib.Omega.{arith}
 use mathlib.Core.List.{List}
 use mathlib.Core.Path.{◌≡◌, refl, sym, ◌∙◌, ap}
 use lib.ListN.{length}
-use Rattle.refusals.specs.declared.Standing.{Standing}
-use Rattle.refusals.specs.declared.Standing.TheVariants.{Good, Refused}
+use Rattle.std.proofs.lemmas.Result.{err_from_is_err_and}
+use Rattle.refusals.specs.Order.{Standing}
+use Rattle.refusals.specs.Order.{Good, Refused}
 use Rattle.records.specs.Record.{records, record_at}
 use Rattle.cards.specs.Examine.{record_standing, examined}
 use Rattle.refusals.specs.Order.{◌then◌}
+use Rattle.refusals.specs.Told.{standing_told}
 use Rattle.records.specs.Laws.Record.{record_at_place}
 use Rattle.cards.proofs.Laws.Examine.{standing_from, standing_1, standing_start, standing_step, standing_end}
 use Rattle.cards.proofs.examine.examine.Goals as goal
@@ -37,29 +39,28 @@ returns-then-wrong_length c =
 pub loop-at-init : goal.loop-at-init
 loop-at-init c =
     let a = c.args in
-    (refl, omega arith, standing_start a.most a.card.now (sym c.wrong_length.ensures ∙ c.if-wrong_length.false))
+    standing_start a.most a.card.now (sym c.wrong_length.ensures ∙ c.if-wrong_length.false)
 
-pub returns-in-Refused : goal.returns-in-Refused
-returns-in-Refused c =
+pub returns-in_err-examine_record : goal.returns-in_err-examine_record
+returns-in_err-examine_record c =
     let a = c.args in
     let l = c.loop-at in
-    told-refused a.most a.card.now l.at (omega arith) l.invariant.2
-    c.examine_record-found.ensures
-    c.in-Refused.is
+    let told = err_from_is_err_and c.from_residual.result c.from_residual.ensures.1 in
+    rw (told.1, told.2)
+    (told-refused a.most a.card.now l.at (omega arith) l.invariant
+    c.examine_record.ensures
+    (ap standing_told c.in_err-examine_record.was))
 
 pub loop-at-preserved : goal.loop-at-preserved
 loop-at-preserved c =
     let a = c.args in
-    let l = c.loop-at in (
-      l.invariant.0,
-      omega arith,
-      told-good a.most a.card.now l.at (omega arith) l.invariant.2
-          c.examine_record-found.ensures
-          c.in_default.is,
-    )
+    let l = c.loop-at in
+    told-good a.most a.card.now l.at (omega arith) l.invariant
+    c.examine_record.ensures
+    (ap standing_told c.in_ok-examine_record.was)
 
 pub returns : goal.returns
 returns c =
     let a = c.args in
     let l = c.loop-at in
-    sym (l.invariant.2 ∙ standing_end a.card.now l.at (omega arith))
+    sym (l.invariant ∙ standing_end a.card.now l.at (omega arith))

@@ -3,7 +3,7 @@ use Prim.Native.Nat.{ℕ}
 use mathlib.Core.Bool.{Bool, true, false}
 use mathlib.Core.List.{List}
 use mathlib.Core.Path.{◌≡◌}
-use Rattle.refusals.specs.declared.Standing.TheVariants.{Good, Refused}
+use Rattle.refusals.specs.Order.{Good, Refused}
 use Rattle.records.specs.declared.record.Record.{Record}
 use Rattle.records.specs.Record.{records, record_at}
 use Rattle.cards.specs.Examine.{obeys, mark_right, record_standing}

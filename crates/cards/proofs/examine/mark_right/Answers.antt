@@ -7,7 +7,7 @@ returns c =
       c.same_mark.ensures,
       c.as_mark.ensures,
       c.has_empty.ensures,
-      c.named.ensures,
+      c.from.ensures,
       c.marked_at-right.ensures,
       c.marked_at-left.ensures,
     )

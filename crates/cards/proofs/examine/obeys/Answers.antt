@@ -2,4 +2,4 @@
 use Rattle.cards.proofs.examine.obeys.Goals as goal
 
 pub returns : goal.returns
-returns c = rw (c.obeys_line.ensures, c.columns_of.ensures, c.named.ensures)
+returns c = rw (c.obeys_line.ensures, c.columns_of.ensures, c.from.ensures)

@@ -1,5 +1,5 @@
 -- `mentions` finds a letter record of the letter if there is one: the records passed have none, so what the definition says of the
--- whole card is what it says of the records from `at` on. The measure is the number of records that are left.
+-- whole card is what it says of the records from `at` on.
 use Prim.Native.Nat.{ℕ, suc, ◌+◌, ◌/◌, ◌<◌, ◌≤◌}
 use native.Mathlib.Numerals.{add-one}
 use native.Mathlib.Omega.{arith}
@@ -46,29 +46,26 @@ module _ (card : List ℕ) (letter : ℕ) where
   at_last at l = rw (drop_of_length-le (records card) {i = at} (omega (arith, length_records card)))
 
 pub loop-at-init : goal.loop-at-init
-loop-at-init c = (refl, omega arith, at_first c.args.card.now c.args.letter)
+loop-at-init c = at_first c.args.card.now c.args.letter
 
 pub returns-then-letter_of : goal.returns-then-letter_of
 returns-then-letter_of c =
     let a = c.args in
     let l = c.loop-at in
-    told_yes a.card.now a.letter l.at l.invariant.2
-    (told a.card.now a.letter l.at (omega arith) c.read-r.ensures c.named.ensures c.letter_of.ensures)
+    told_yes a.card.now a.letter l.at l.invariant
+    (told a.card.now a.letter l.at (omega arith) c.read-r.ensures c.from.ensures c.letter_of.ensures)
     c.if-letter_of.true
 
 pub loop-at-preserved : goal.loop-at-preserved
 loop-at-preserved c =
     let a = c.args in
-    let l = c.loop-at in (
-      l.invariant.0,
-      omega arith,
-      told_no a.card.now a.letter l.at l.invariant.2
-          (told a.card.now a.letter l.at (omega arith) c.read-r.ensures c.named.ensures c.letter_of.ensures)
-          c.if-letter_of.false,
-    )
+    let l = c.loop-at in
+    told_no a.card.now a.letter l.at l.invariant
+    (told a.card.now a.letter l.at (omega arith) c.read-r.ensures c.from.ensures c.letter_of.ensures)
+    c.if-letter_of.false
 
 pub returns : goal.returns
 returns c =
     let a = c.args in
     let l = c.loop-at in
-    sym (l.invariant.2 ∙ at_last a.card.now a.letter l.at (omega arith))
+    sym (l.invariant ∙ at_last a.card.now a.letter l.at (omega arith))

@@ -4,8 +4,8 @@ use mathlib.Core.Bool.{true, false}
 use mathlib.Core.List.{List}
 use mathlib.Core.Path.{◌≡◌, sym, ◌∙◌}
 use lib.ListN.{length}
-use Rattle.refusals.specs.declared.Standing.{Standing}
-use Rattle.refusals.specs.declared.Standing.TheVariants.{Good, Refused}
+use Rattle.refusals.specs.Order.{Standing}
+use Rattle.refusals.specs.Order.{Good, Refused}
 use Rattle.refusals.specs.Numbers.{work_room_size, pair_room_size, pair_names_no_record}
 use Rattle.cards.specs.Examine.{pattern_card, proof_card}
 use Rattle.store.specs.Room.{wrong_room}

@@ -18,4 +18,4 @@ as_number s n = simp (get_or-drop, add-zero) (omega arith)
 pub returns : goal.returns
 returns c =
     let a = c.args in
-    c.eight.ensures ∙ as_number a.run.now (8 * a.at)
+    omega (arith, c.from_le_bytes.ensures, as_number a.run.now (8 * a.at))
