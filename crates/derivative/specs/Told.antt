@@ -2,8 +2,8 @@
 use Rattle.std.specs.Prelude.{ℕ, List, ◌≡◌, length}
 use Rattle.refusals.specs.Numbers.{no_free_place}
 use Rattle.records.specs.declared.record.Record.{Record}
-use Rattle.store.specs.declared.interning.Made.{Made}
-use Rattle.store.specs.declared.interning.Made.TheVariants.{Placed, Full}
+use Rattle.store.proofs.Laws.Told.{Made}
+use Rattle.store.proofs.Laws.Told.{Placed, Full}
 use Rattle.store.specs.Room.{laid}
 use Rattle.derivative.specs.declared.Derived.{Derived}
 use Rattle.derivative.specs.declared.Derived.TheVariants.{At, Stopped}

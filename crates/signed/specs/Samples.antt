@@ -4,7 +4,7 @@ use Rattle.language.specs.Language.{Pattern, nothing, empty_word, letter, choice
 use Rattle.records.specs.declared.record.Record.{Record}
 use Rattle.records.specs.Record.{run_of}
 use Rattle.records.specs.Kind.{nothing_kind, empty_word_kind, letter_kind, choice_kind, sequence_kind, repeat_kind}
-use Rattle.store.specs.declared.finding.Found.TheVariants.{At, Absent}
+use Rattle.std.specs.declared.option.Option.TheVariants.{Some, None}
 use Rattle.store.specs.Making.{find, new_record}
 
 infixr 20 ◌⊕◌
@@ -33,7 +33,7 @@ h = letter 104
 -- A record put behind those of a card, unless it stands there; what comes next goes on from its number and the card.
 abbrev put : ℕ → ℕ → ℕ → ℕ → List Record → (ℕ → List Record → List ℕ) → List ℕ
 put kind c left right card next =
-    let r = new_record card kind c left right in elim (find card r) [ At n ↦ next n card | Absent ↦ next (length card) (card ++ r ∷ []) ]
+    let r = new_record card kind c left right in elim (find card r) [ Some n ↦ next n card | None ↦ next (length card) (card ++ r ∷ []) ]
 
 -- A pattern's records put there, its children's first.
 unfoldable pub enter : Pattern → List Record → (ℕ → List Record → List ℕ) → List ℕ

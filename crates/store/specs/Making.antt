@@ -12,8 +12,8 @@ use Rattle.records.specs.declared.record.Record.{Record}
 use Rattle.records.specs.Record.{child}
 use Rattle.records.specs.Kind.{kind_of}
 use Rattle.cards.specs.Mark.{bit, marked, has_empty}
-use Rattle.store.specs.declared.finding.Found.{Found}
-use Rattle.store.specs.declared.finding.Found.TheVariants.{At, Absent}
+use Rattle.std.specs.declared.option.Option.{Option}
+use Rattle.std.specs.declared.option.Option.TheVariants.{Some, None}
 use Rattle.store.specs.declared.making.Ruled.{Ruled}
 use Rattle.store.specs.declared.making.Ruled.TheVariants.{Gives, Stays, Merges}
 
@@ -29,18 +29,18 @@ identical r s =
     && eqb r.fourth s.fourth && eqb r.left s.left && eqb r.right s.right
 
 -- The first place that holds the record, of records of which the first stands at `at`.
-unfoldable pub find_from : ℕ → List Record → Record → Found
-find_from at [] r = Absent
-find_from at (s ∷ rest) r = elim (identical s r) [ true ↦ At at | false ↦ find_from (suc at) rest r ]
+unfoldable pub find_from : ℕ → List Record → Record → Option ℕ
+find_from at [] r = None
+find_from at (s ∷ rest) r = elim (identical s r) [ true ↦ Some at | false ↦ find_from (suc at) rest r ]
 
-unfoldable pub find : List Record → Record → Found
+unfoldable pub find : List Record → Record → Option ℕ
 unfolding find_from
 find store r = find_from 0 store r
 
 -- The record is used where it was found, and else written at the first free place of a room of so many places.
-abbrev pub use_or_write : ℕ → List Record → Record → Found → Making
-use_or_write room store r (At place) = placed place store
-use_or_write room store r Absent =
+abbrev pub use_or_write : ℕ → List Record → Record → Option ℕ → Making
+use_or_write room store r (Some place) = placed place store
+use_or_write room store r None =
     cond (ltb (length store) room) (placed (length store) (store ++ r ∷ [])) (full store)
 
 unfoldable pub intern : ℕ → List Record → Record → Making

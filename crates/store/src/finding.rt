@@ -5,40 +5,29 @@ ghost use Rattle.store.specs.Room.{store_in};
 ghost use Rattle.store.specs.Making.{find};
 ghost use Rattle.store.specs.Good.{GoodStore};
 
-use records::kind::{columns_of, named};
+use records::kind::{Kind, columns_of};
 use records::record::{Record, number, number_at};
 
-#[derive(Clone, Copy)]
-pub enum Found {
-    At(usize),
-    Absent,
-}
-
 // The place that holds the record. Records are compared as one number each, from the first place that can hold it on.
-pub fn find(room: &[u8], places: usize, r: Record) -> Found
+pub fn find(room: &[u8], places: usize, r: Record) -> Option<usize>
     requires { GoodStore room.now places }
     ensures { result ≡ find (store_in room.now places) r }
 {
     let wanted = number(r);
-    let mut at = above_children(r);
-    while at < places {
+    for at in above_children(r)..places {
         if number_at(room, at) == wanted {
-            return Found::At(at);
+            return Some(at);
         }
-        at += 1;
     }
-    Found::Absent
+    None
 }
 
 // The first place that can hold the record, where any can: it stands above the children that its kind has.
 fn above_children(r: Record) -> usize
     ensures { (k : ℕ) → Obeys k r → (result ≤ k) × Obeys result r }
 {
-    let line = columns_of(named(r.kind));
-    higher(
-        above_child(line.left, r.left),
-        above_child(line.right, r.right),
-    )
+    let line = columns_of(Kind::from(r.kind));
+    above_child(line.left, r.left).max(above_child(line.right, r.right))
 }
 
 // The first place at which a field is right, where there is one: above the child that it names, and any place where it names none.
@@ -49,14 +38,4 @@ fn above_child(child: bool, field: u16) -> usize
         return field as usize + 1;
     }
     0
-}
-
-// The higher of two places.
-fn higher(one: usize, other: usize) -> usize
-    ensures { (one ≤ result) × (other ≤ result) × ((k : ℕ) → one ≤ k → other ≤ k → result ≤ k) }
-{
-    if one < other {
-        return other;
-    }
-    one
 }

@@ -2,39 +2,33 @@
 ghost use Rattle.std.specs.Prelude.{◌≡◌, ◌<◌};
 ghost use Rattle.records.specs.Record.{child};
 ghost use Rattle.cards.specs.Mark.{marked};
-ghost use Rattle.store.specs.Room.{store_in, places_of, laid};
-ghost use Rattle.store.specs.Making.{new_record, intern, after};
-ghost use Rattle.store.specs.Told.{told_making};
+ghost use Rattle.store.specs.Room.{store_in, places_of};
+ghost use Rattle.store.specs.Making.{new_record, intern};
+ghost use Rattle.store.specs.Told.{Makes};
 ghost use Rattle.store.specs.Good.{GoodStore};
 
-use crate::finding::{Found, find};
+use crate::finding::find;
 use crate::writing::write;
 use cards::examine::{as_mark, has_empty};
-use records::kind::named;
+use records::kind::Kind;
 use records::record::{RECORD, Record, read};
+use refusals::refusal::Refusal;
 
-// The record's place and the places then taken, or a full room and the places taken.
-#[derive(Clone, Copy)]
-pub enum Made {
-    Placed(usize, usize),
-    Full(usize),
-}
-
-// The record is used where it is found, and else written at the first free place.
-pub fn intern(room: &mut [u8], places: usize, r: Record) -> Made
-    requires { GoodStore room.old places }
-    ensures value { result ≡ told_making (intern (places_of room.old) (store_in room.old places) r) }
-    ensures room_after { room.new ≡ laid (after (intern (places_of room.old) (store_in room.old places) r)) room.old }
+// The record is used where it is found, and else written at the first free place. The places taken grow with it.
+pub fn intern(room: &mut [u8], places: &mut usize, r: Record) -> Result<usize, Refusal>
+    requires { GoodStore room.old places.old }
+    ensures { Makes room.old (intern (places_of room.old) (store_in room.old places.old) r) result room.new places.new }
 {
-    let found = find(room, places, r);
-    if let Found::At(place) = found {
-        return Made::Placed(place, places);
+    if let Some(place) = find(room, *places, r) {
+        return Ok(place);
     }
-    if places < room.len() / RECORD {
-        write(room, places, r);
-        return Made::Placed(places, places + 1);
+    let place = *places;
+    if place < room.len() / RECORD {
+        write(room, place, r);
+        *places += 1;
+        return Ok(place);
     }
-    Made::Full(places)
+    Err(Refusal::NoFreePlace)
 }
 
 // The record of this kind, letter and children, with its mark.
@@ -47,11 +41,11 @@ pub fn new_record(
     right: usize,
 ) -> Record
     requires good_store { GoodStore room.now places }
-    requires left_lt_places { (left < places) × (right < places) }
+    requires children_stand { (left < places) × (right < places) }
     ensures { result ≡ new_record (store_in room.now places) kind letter left right }
 {
     let mark = as_mark(has_empty(
-        named(kind),
+        Kind::from(kind),
         marked_at(room, places, left),
         marked_at(room, places, right),
     ));

@@ -1,4 +1,4 @@
-// The store: finding, writing and making records in the lent work room, each of which asks that the store is good.
+// The store: finding, writing and making records in the lent work room, each of which asks that the store is good; and what a call works with.
 // The definitions that the contracts cite stand in specs/; specs/Lib.antt lists them. Nothing of this is offered to others.
 #![tactic(auto)]
 
@@ -7,4 +7,5 @@ pub mod interning;
 pub mod making;
 pub mod merging;
 pub mod room;
+pub mod work;
 pub mod writing;

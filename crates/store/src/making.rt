@@ -1,14 +1,15 @@
 // Making a record: by a rule, as a record, or as a set of two merged.
 ghost use Rattle.std.specs.Prelude.{◌≡◌, ◌<◌};
-ghost use Rattle.store.specs.Room.{store_in, places_of, laid};
-ghost use Rattle.store.specs.Making.{sequence_rule, rule, make, after};
-ghost use Rattle.store.specs.Told.{told_making};
+ghost use Rattle.store.specs.Room.{store_in, places_of};
+ghost use Rattle.store.specs.Making.{sequence_rule, rule, make};
+ghost use Rattle.store.specs.Told.{Makes};
 ghost use Rattle.store.specs.Good.{GoodStore};
 
-use crate::interning::{Made, intern, new_record};
+use crate::interning::{intern, new_record};
 use crate::merging::set_of_both;
 use crate::room::{EMPTY_WORD_PLACE, NOTHING_PLACE};
-use records::kind::{Kind, named};
+use records::kind::Kind;
+use refusals::refusal::Refusal;
 
 // A rule gives a place, the record stays one, or two sets are merged.
 #[derive(Clone, Copy)]
@@ -19,16 +20,22 @@ pub enum Ruled {
 }
 
 // Making a record of this kind and letter, with these children.
-pub fn make(room: &mut [u8], places: usize, kind: u8, letter: u8, left: usize, right: usize) -> Made
-    requires good_store { GoodStore room.old places }
-    requires left_lt_places { (left < places) × (right < places) }
-    ensures value { result ≡ told_making (make (places_of room.old) (store_in room.old places) kind letter left right) }
-    ensures room_after { room.new ≡ laid (after (make (places_of room.old) (store_in room.old places) kind letter left right)) room.old }
+pub fn make(
+    room: &mut [u8],
+    places: &mut usize,
+    kind: u8,
+    letter: u8,
+    left: usize,
+    right: usize,
+) -> Result<usize, Refusal>
+    requires good_store { GoodStore room.old places.old }
+    requires children_stand { (left < places.old) × (right < places.old) }
+    ensures { Makes room.old (make (places_of room.old) (store_in room.old places.old) kind letter left right) result room.new places.new }
 {
-    match rule(named(kind), left, right) {
-        Ruled::Gives(place) => Made::Placed(place, places),
+    match rule(Kind::from(kind), left, right) {
+        Ruled::Gives(place) => Ok(place),
         Ruled::Stays => {
-            let r = new_record(room, places, kind, letter, left, right);
+            let r = new_record(room, *places, kind, letter, left, right);
             intern(room, places, r)
         }
         Ruled::Merges => set_of_both(room, places, kind, left, right),

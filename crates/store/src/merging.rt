@@ -1,13 +1,14 @@
 // Making a set: two of its kind, merged by rising place, each member once, and built from the last member backward.
-ghost use Rattle.std.specs.Prelude.{◌≡◌, cond, ◌<◌, eqb, ltb};
-ghost use Rattle.store.specs.Room.{store_in, places_of, laid};
-ghost use Rattle.store.specs.Making.{placed, put_before, set_of_both, after};
-ghost use Rattle.store.specs.Told.{told_making, side};
+ghost use Rattle.std.specs.Prelude.{◌≡◌, cond, ◌<◌, eqb};
+ghost use Rattle.store.specs.Room.{store_in, places_of};
+ghost use Rattle.store.specs.Making.{placed, put_before, set_of_both};
+ghost use Rattle.store.specs.Told.{side, Makes};
 ghost use Rattle.store.specs.Good.{SetKind, GoodStore};
 
-use crate::interning::{Made, intern, new_record};
+use crate::interning::{intern, new_record};
 use crate::room::NOTHING_PLACE;
 use records::record::read;
+use refusals::refusal::Refusal;
 
 // A set whose record was read: its first member and the place of the set behind that.
 #[derive(Clone, Copy)]
@@ -18,33 +19,35 @@ pub struct Side {
 
 // Making the set of both places' members. Where one is used up, or both are one, the other stands already. Places are handed on, and no
 // record that was read, so that a level of these calls takes little of the stack.
-pub fn set_of_both(room: &mut [u8], places: usize, kind: u8, left: usize, right: usize) -> Made
-    requires good_store { GoodStore room.old places }
-    requires left_lt_places { (left < places) × (right < places) }
+pub fn set_of_both(
+    room: &mut [u8],
+    places: &mut usize,
+    kind: u8,
+    left: usize,
+    right: usize,
+) -> Result<usize, Refusal>
+    requires good_store { GoodStore room.old places.old }
+    requires sets_stand { (left < places.old) × (right < places.old) }
     requires set_kind { SetKind kind }
-    ensures value { result ≡ told_making (set_of_both (places_of room.old) kind (store_in room.old places) left right) }
-    ensures room_after { room.new ≡ laid (after (set_of_both (places_of room.old) kind (store_in room.old places) left right)) room.old }
+    ensures { Makes room.old (set_of_both (places_of room.old) kind (store_in room.old places.old) left right) result room.new places.new }
 {
     if (left == NOTHING_PLACE) | (left == right) {
-        return Made::Placed(right, places);
+        return Ok(right);
     }
     if right == NOTHING_PLACE {
-        return Made::Placed(left, places);
+        return Ok(left);
     }
-    let one = read_side(room, places, kind, left);
-    let other = read_side(room, places, kind, right);
-    let member = lower(one.first, other.first);
+    let one = read_side(room, *places, kind, left);
+    let other = read_side(room, *places, kind, right);
+    let member = one.first.min(other.first);
     let rest = set_of_both(
         room,
         places,
         kind,
         past(left, one, member),
         past(right, other, member),
-    );
-    match rest {
-        Made::Placed(place, taken) => put_before(room, taken, kind, member, place),
-        Made::Full(taken) => Made::Full(taken),
-    }
+    )?;
+    put_before(room, places, kind, member, rest)
 }
 
 // The set at a place.
@@ -77,25 +80,20 @@ fn past(place: usize, set: Side, member: usize) -> usize
 }
 
 // A member before the set of the later ones: where that is nothing the member is the set, and else the record of both is used or written.
-fn put_before(room: &mut [u8], places: usize, kind: u8, member: usize, rest: usize) -> Made
-    requires good_store { GoodStore room.old places }
-    requires member_lt_places { (member < places) × (rest < places) }
-    ensures value { result ≡ told_making (put_before (places_of room.old) kind member (placed rest (store_in room.old places))) }
-    ensures room_after { room.new ≡ laid (after (put_before (places_of room.old) kind member (placed rest (store_in room.old places)))) room.old }
+fn put_before(
+    room: &mut [u8],
+    places: &mut usize,
+    kind: u8,
+    member: usize,
+    rest: usize,
+) -> Result<usize, Refusal>
+    requires good_store { GoodStore room.old places.old }
+    requires both_stand { (member < places.old) × (rest < places.old) }
+    ensures { Makes room.old (put_before (places_of room.old) kind member (placed rest (store_in room.old places.old))) result room.new places.new }
 {
     if rest == NOTHING_PLACE {
-        return Made::Placed(member, places);
+        return Ok(member);
     }
-    let r = new_record(room, places, kind, 0, member, rest);
+    let r = new_record(room, *places, kind, 0, member, rest);
     intern(room, places, r)
-}
-
-// The lower of two places.
-fn lower(one: usize, other: usize) -> usize
-    ensures { result ≡ cond (ltb one other) one other }
-{
-    if one < other {
-        return one;
-    }
-    other
 }

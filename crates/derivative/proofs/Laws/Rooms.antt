@@ -10,11 +10,11 @@ use Rattle.records.specs.Record.{record_at, child}
 use Rattle.records.specs.Kind.{kind_of, columns, choice_kind, sequence_kind}
 use Rattle.cards.specs.Mark.{marked}
 use Rattle.cards.specs.Standing.{LineOf, Line}
-use Rattle.store.specs.declared.interning.Made.{Made}
-use Rattle.store.specs.declared.interning.Made.TheVariants.{Placed, Full}
+use Rattle.store.proofs.Laws.Told.{Made}
+use Rattle.store.proofs.Laws.Told.{Placed, Full}
 use Rattle.store.specs.Room.{store_in, places_of, laid}
 use Rattle.store.specs.Making.{Making, placed, full, make, after}
-use Rattle.store.specs.Told.{told_making}
+use Rattle.store.proofs.Laws.Told.{told_making}
 use Rattle.store.specs.Good.{GoodStore}
 use Rattle.store.proofs.Laws.Room.{laid_same, laid_laid, child_in_room}
 use Rattle.store.specs.Laws.Wall.{Ready, Kept}

@@ -14,14 +14,14 @@ use Rattle.records.specs.Kind.{kind_of, columns}
 use Rattle.cards.specs.Standing.{ChildField, Line}
 use Rattle.cards.proofs.Laws.Line.{lower_left, lower_right, field_same}
 use Rattle.records.specs.Laws.Record.{record_at_place, length_records}
-use Rattle.store.specs.declared.interning.Made.{Made}
-use Rattle.store.specs.declared.interning.Made.TheVariants.{Placed, Full}
+use Rattle.store.proofs.Laws.Told.{Made}
+use Rattle.store.proofs.Laws.Told.{Placed, Full}
 use Rattle.loading.specs.declared.card.Loaded.{Loaded}
 use Rattle.loading.specs.declared.card.Loaded.TheVariants.{All, Full as AllFull}
 use Rattle.store.specs.Room.{store_in, places_of, laid}
 use Rattle.store.specs.Making.{Making, make, after}
 use Rattle.loading.specs.Loading.{Loading, loaded, child_place, left_place, right_place, make_loaded, load_after, load, after_loading}
-use Rattle.store.specs.Told.{told_making}
+use Rattle.store.proofs.Laws.Told.{told_making}
 use Rattle.loading.specs.Told.{told_loading, Mapped}
 use Rattle.store.specs.Good.{GoodStore}
 use Rattle.loading.specs.Told.{Loadable}

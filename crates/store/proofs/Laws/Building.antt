@@ -8,7 +8,7 @@ use Rattle.std.proofs.Math.Seq.{get_or-append_seam}
 use Rattle.records.specs.declared.record.Record.{Record}
 use Rattle.records.specs.Record.{child}
 use Rattle.records.specs.Kind.{kind_of}
-use Rattle.store.specs.declared.finding.Found.TheVariants.{Absent}
+use Rattle.std.specs.declared.option.Option.TheVariants.{None}
 use Rattle.store.specs.Making.{Making, placed, full, after, find, new_record, is_kind, members, put_before, built}
 use Rattle.store.specs.Good.{is_set, SetKind, Good, Set, none, member}
 use Rattle.store.proofs.Laws.Finding.{found_within, found_holds, added_found}
@@ -37,7 +37,7 @@ pub data BuildLaw (room kind : ℕ) (store : List Record) (ms : List ℕ) : Maki
 -- The record of a member and a set behind it, where it is absent, is written: the store is good again.
 module _ {kind : ℕ} (set : SetKind kind) {store : List Record} (g : Good store) (m rest : ℕ) (p : 0 < m) (l : m < length store)
     (e : is_kind kind (child store m) ≡ false) (q : 0 < rest) (k : rest < length store) (s : Set kind store m (members kind store rest))
-    (absent : find store (new_record store kind 0 m rest) ≡ Absent) where
+    (absent : find store (new_record store kind 0 m rest) ≡ None) where
   abbrev new : Record
   new = new_record store kind 0 m rest
 

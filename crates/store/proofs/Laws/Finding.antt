@@ -6,8 +6,8 @@ use Rattle.std.proofs.lemmas.Bool.{false≢true}
 use Rattle.language.proofs.Laws.Tests.{and_left, and_right}
 use Rattle.records.specs.declared.record.Record.{Record}
 use Rattle.records.specs.Record.{child}
-use Rattle.store.specs.declared.finding.Found.{Found}
-use Rattle.store.specs.declared.finding.Found.TheVariants.{At, Absent}
+use Rattle.std.specs.declared.option.Option.{Option}
+use Rattle.std.specs.declared.option.Option.TheVariants.{Some, None}
 use Rattle.store.specs.Making.{identical, find_from, find}
 
 -- Identical records are equal.
@@ -71,16 +71,16 @@ pub record FoundAt (store : List Record) (r : Record) (at place : ℕ) : Type 0 
   pub within : steps < length store
   pub holds : child store steps ≡ r
 
-found_from : (at : ℕ) (store : List Record) (r : Record) (place : ℕ) → find_from at store r ≡ At place → FoundAt store r at place
+found_from : (at : ℕ) (store : List Record) (r : Record) (place : ℕ) → find_from at store r ≡ Some place → FoundAt store r at place
 unfolding find_from
 found_from at [] r place e = absurd (absent_not_found e)
   where
-    absent_not_found : Absent ≡ At place → ⊥
+    absent_not_found : None ≡ Some place → ⊥
     absent_not_found e = let z : ◌≡◌ {A = ℕ} 0 1 = cc in omega arith
 found_from at (s ∷ rest) r place e = go (identical s r) refl (found_from (suc at) rest r place) e
   where
-    go : (b : Bool) → identical s r ≡ b → (find_from (suc at) rest r ≡ At place → FoundAt rest r (suc at) place)
-        → elim b as (λ _. Found) [ true ↦ At at | false ↦ find_from (suc at) rest r ] ≡ At place → FoundAt (s ∷ rest) r at place
+    go : (b : Bool) → identical s r ≡ b → (find_from (suc at) rest r ≡ Some place → FoundAt rest r (suc at) place)
+        → elim b as (λ _. Option ℕ) [ true ↦ Some at | false ↦ find_from (suc at) rest r ] ≡ Some place → FoundAt (s ∷ rest) r at place
     go true f later g =
         let h : at ≡ place = cc in
         record { steps = 0; is = omega arith; within = omega arith; holds = identical_sound s r f }
@@ -88,11 +88,11 @@ found_from at (s ∷ rest) r place e = go (identical s r) refl (found_from (suc 
         let h = later g in
         record { steps = suc h.steps; is = omega arith; within = suc-le-suc h.within; holds = h.holds }
 
-pub found_within : (store : List Record) (r : Record) (place : ℕ) → find store r ≡ At place → place < length store
+pub found_within : (store : List Record) (r : Record) (place : ℕ) → find store r ≡ Some place → place < length store
 unfolding find
 found_within store r place e = let h = found_from 0 store r place e in omega arith
 
-pub found_holds : (store : List Record) (r : Record) (place : ℕ) → find store r ≡ At place → child store place ≡ r
+pub found_holds : (store : List Record) (r : Record) (place : ℕ) → find store r ≡ Some place → child store place ≡ r
 unfolding find
 found_holds store r place e =
     let h = found_from 0 store r place e in
@@ -101,55 +101,55 @@ found_holds store r place e =
 
 -- What is found stays found there when records are added.
 
-from_kept : (at : ℕ) (store more : List Record) (r : Record) (place : ℕ) → find_from at store r ≡ At place → find_from at (store ++ more) r ≡ At place
+from_kept : (at : ℕ) (store more : List Record) (r : Record) (place : ℕ) → find_from at store r ≡ Some place → find_from at (store ++ more) r ≡ Some place
 unfolding find_from
 from_kept at [] more r place e = let z : ◌≡◌ {A = ℕ} 0 1 = cc in absurd (omega arith)
 from_kept at (s ∷ rest) more r place e = go (identical s r) (from_kept (suc at) rest more r place) e
   where
-    go : (b : Bool) → (find_from (suc at) rest r ≡ At place → find_from (suc at) (rest ++ more) r ≡ At place)
-        → elim b as (λ _. Found) [ true ↦ At at | false ↦ find_from (suc at) rest r ] ≡ At place
-        → elim b as (λ _. Found) [ true ↦ At at | false ↦ find_from (suc at) (rest ++ more) r ] ≡ At place
+    go : (b : Bool) → (find_from (suc at) rest r ≡ Some place → find_from (suc at) (rest ++ more) r ≡ Some place)
+        → elim b as (λ _. Option ℕ) [ true ↦ Some at | false ↦ find_from (suc at) rest r ] ≡ Some place
+        → elim b as (λ _. Option ℕ) [ true ↦ Some at | false ↦ find_from (suc at) (rest ++ more) r ] ≡ Some place
     go true later g = g
     go false later g = later g
 
-pub found_kept : (store more : List Record) (r : Record) (place : ℕ) → find store r ≡ At place → find (store ++ more) r ≡ At place
+pub found_kept : (store more : List Record) (r : Record) (place : ℕ) → find store r ≡ Some place → find (store ++ more) r ≡ Some place
 unfolding find
 found_kept store more r place e = from_kept 0 store more r place e
 
 -- What is absent stands nowhere, and is found at the end once it is added there.
 
-from_absent : (at : ℕ) (store : List Record) (r : Record) → find_from at store r ≡ Absent → (i : ℕ) → i < length store → child store i ≡ r → ⊥
+from_absent : (at : ℕ) (store : List Record) (r : Record) → find_from at store r ≡ None → (i : ℕ) → i < length store → child store i ≡ r → ⊥
 unfolding find_from
 from_absent at [] r e i l h = omega arith
 from_absent at (s ∷ rest) r e i l h = go (identical s r) refl (from_absent (suc at) rest r) e i l h
   where
     go : (b : Bool) → identical s r ≡ b
-        → (find_from (suc at) rest r ≡ Absent → (i : ℕ) → i < length rest → child rest i ≡ r → ⊥)
-        → elim b as (λ _. Found) [ true ↦ At at | false ↦ find_from (suc at) rest r ] ≡ Absent
+        → (find_from (suc at) rest r ≡ None → (i : ℕ) → i < length rest → child rest i ≡ r → ⊥)
+        → elim b as (λ _. Option ℕ) [ true ↦ Some at | false ↦ find_from (suc at) rest r ] ≡ None
         → (i : ℕ) → i < length (s ∷ rest) → child (s ∷ rest) i ≡ r → ⊥
     go true f later g i l h = let z : ◌≡◌ {A = ℕ} 0 1 = cc in omega arith
     go false f later g zero l h = false≢true (sym f ∙ ap (λ (x : Record). identical x r) h ∙ identical_self r)
     go false f later g (suc i) l h = later g i (omega arith) h
 
-pub absent_nowhere : (store : List Record) (r : Record) → find store r ≡ Absent → (i : ℕ) → i < length store → child store i ≡ r → ⊥
+pub absent_nowhere : (store : List Record) (r : Record) → find store r ≡ None → (i : ℕ) → i < length store → child store i ≡ r → ⊥
 unfolding find
 absent_nowhere store r e = from_absent 0 store r e
 
-from_added : (at : ℕ) (store : List Record) (r : Record) → find_from at store r ≡ Absent → find_from at (store ++ r ∷ []) r ≡ At (at + length store)
+from_added : (at : ℕ) (store : List Record) (r : Record) → find_from at store r ≡ None → find_from at (store ++ r ∷ []) r ≡ Some (at + length store)
 unfolding find_from
 from_added at [] r e = go (identical r r) (identical_self r)
   where
-    go : (b : Bool) → b ≡ true → elim b as (λ _. Found) [ true ↦ At at | false ↦ Absent ] ≡ At (at + 0)
-    go true f = ap At (sym (add-zero at))
+    go : (b : Bool) → b ≡ true → elim b as (λ _. Option ℕ) [ true ↦ Some at | false ↦ None ] ≡ Some (at + 0)
+    go true f = ap Some (sym (add-zero at))
     go false f = absurd (false≢true f)
 from_added at (s ∷ rest) r e = go (identical s r) (from_added (suc at) rest r) e
   where
-    go : (b : Bool) → (find_from (suc at) rest r ≡ Absent → find_from (suc at) (rest ++ r ∷ []) r ≡ At (suc at + length rest))
-        → elim b as (λ _. Found) [ true ↦ At at | false ↦ find_from (suc at) rest r ] ≡ Absent
-        → elim b as (λ _. Found) [ true ↦ At at | false ↦ find_from (suc at) (rest ++ r ∷ []) r ] ≡ At (at + suc (length rest))
+    go : (b : Bool) → (find_from (suc at) rest r ≡ None → find_from (suc at) (rest ++ r ∷ []) r ≡ Some (suc at + length rest))
+        → elim b as (λ _. Option ℕ) [ true ↦ Some at | false ↦ find_from (suc at) rest r ] ≡ None
+        → elim b as (λ _. Option ℕ) [ true ↦ Some at | false ↦ find_from (suc at) (rest ++ r ∷ []) r ] ≡ Some (at + suc (length rest))
     go true later g = let z : ◌≡◌ {A = ℕ} 0 1 = cc in absurd (omega arith)
-    go false later g = let n : suc at + length rest ≡ at + suc (length rest) = omega arith in later g ∙ ap At n
+    go false later g = let n : suc at + length rest ≡ at + suc (length rest) = omega arith in later g ∙ ap Some n
 
-pub added_found : (store : List Record) (r : Record) → find store r ≡ Absent → find (store ++ r ∷ []) r ≡ At (length store)
+pub added_found : (store : List Record) (r : Record) → find store r ≡ None → find (store ++ r ∷ []) r ≡ Some (length store)
 unfolding find
-added_found store r e = from_added 0 store r e ∙ ap At (zero-add (length store))
+added_found store r e = from_added 0 store r e ∙ ap Some (zero-add (length store))

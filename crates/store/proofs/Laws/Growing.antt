@@ -14,7 +14,7 @@ use Rattle.cards.specs.Standing.{Line, Obeys}
 use Rattle.cards.proofs.Laws.Line.{lower_left, lower_right}
 use Rattle.cards.proofs.Laws.Meaning.{patterns_more, length_patterns, pattern_kept}
 use Rattle.cards.proofs.Laws.Examine.{has_empty_right}
-use Rattle.store.specs.declared.finding.Found.TheVariants.{Absent}
+use Rattle.std.specs.declared.option.Option.TheVariants.{None}
 use Rattle.store.specs.Making.{placed, find, intern, new_record}
 use Rattle.store.specs.Good.{is_set, Good, Set, IsSet, make_again}
 use Rattle.store.proofs.Laws.Finding.{absent_nowhere}
@@ -62,7 +62,7 @@ pattern_new store r =
 -- A good store with one new record is good: a record that obeys the table, is absent, is a set where its kind asks for one, is settled there
 -- and is made in its turn.
 module _ (store : List Record) (g : Good store) (kind letter left right : ℕ) (line : Line (length store) (new_record store kind letter left right))
-    (byte : letter < 256) (absent : find store (new_record store kind letter left right) ≡ Absent) where
+    (byte : letter < 256) (absent : find store (new_record store kind letter left right) ≡ None) where
   abbrev new : Record
   new = new_record store kind letter left right
 

@@ -10,8 +10,8 @@ use Rattle.cards.specs.Mark.{bit, marked}
 use Rattle.cards.specs.Meaning.{patterns, numbered}
 use Rattle.cards.proofs.Laws.Meaning.{pattern_of_record}
 use Rattle.cards.proofs.Laws.Examine.{marked_bit, has_empty_right}
-use Rattle.store.specs.declared.finding.Found.{Found}
-use Rattle.store.specs.declared.finding.Found.TheVariants.{At, Absent}
+use Rattle.std.specs.declared.option.Option.{Option}
+use Rattle.std.specs.declared.option.Option.TheVariants.{Some, None}
 use Rattle.store.specs.Making.{Making, placed, full, find, use_or_write, intern, new_record}
 use Rattle.store.specs.Good.{Good}
 use Rattle.store.proofs.Laws.Finding.{found_within, found_holds, found_kept, absent_nowhere}
@@ -20,39 +20,39 @@ use Rattle.store.proofs.Laws.Members.{grows_child}
 
 -- What becomes of a record, and why.
 pub data Way (room : ℕ) (store : List Record) (r : Record) : Making → Type 0 where
-  found : {place : ℕ} → find store r ≡ At place → Way room store r (placed place store)
-  written : find store r ≡ Absent → length store < room → Way room store r (placed (length store) (store ++ r ∷ []))
-  stopped : find store r ≡ Absent → room ≤ length store → Way room store r (full store)
+  found : {place : ℕ} → find store r ≡ Some place → Way room store r (placed place store)
+  written : find store r ≡ None → length store < room → Way room store r (placed (length store) (store ++ r ∷ []))
+  stopped : find store r ≡ None → room ≤ length store → Way room store r (full store)
 
 module _ (room : ℕ) (store : List Record) (r : Record) where
-  by_find : {f : Found} → find store r ≡ f → intern room store r ≡ use_or_write room store r f
+  by_find : {f : Option ℕ} → find store r ≡ f → intern room store r ≡ use_or_write room store r f
   unfolding intern
   by_find e = ap (use_or_write room store r) e
 
   -- Each way leads to one outcome.
-  pub intern_found : {place : ℕ} → find store r ≡ At place → intern room store r ≡ placed place store
+  pub intern_found : {place : ℕ} → find store r ≡ Some place → intern room store r ≡ placed place store
   intern_found e = by_find e
 
-  pub intern_written : find store r ≡ Absent → length store < room → intern room store r ≡ placed (length store) (store ++ r ∷ [])
+  pub intern_written : find store r ≡ None → length store < room → intern room store r ≡ placed (length store) (store ++ r ∷ [])
   intern_written e l = by_find e ∙ rw (lt-ltb (length store) room l)
 
-  pub intern_stopped : find store r ≡ Absent → room ≤ length store → intern room store r ≡ full store
+  pub intern_stopped : find store r ≡ None → room ≤ length store → intern room store r ≡ full store
   intern_stopped e l = by_find e ∙ rw (le-ltb (length store) room l)
 
   -- And some way is taken.
   pub way : Way room store r (intern room store r)
   way = go (find store r) refl
     where
-      go : (f : Found) → find store r ≡ f → Way room store r (intern room store r)
-      go (At place) e = rw (intern_found e) (found e)
-      go Absent e = room_left (dec_lt (length store) room)
+      go : (f : Option ℕ) → find store r ≡ f → Way room store r (intern room store r)
+      go (Some place) e = rw (intern_found e) (found e)
+      go None e = room_left (dec_lt (length store) room)
         where
           room_left : Dec (length store < room) → Way room store r (intern room store r)
           room_left (yes l) = rw (intern_written e l) (written e l)
           room_left (no l) = rw (intern_stopped e (omega arith)) (stopped e (omega arith))
 
 -- What is found stays found there in a store with more records.
-pub grows_found : {store grown : List Record} → Grows store grown → (r : Record) (place : ℕ) → find store r ≡ At place → find grown r ≡ At place
+pub grows_found : {store grown : List Record} → Grows store grown → (r : Record) (place : ℕ) → find store r ≡ Some place → find grown r ≡ Some place
 grows_found {store} k r place e = ap (λ (s : List Record). find s r) k.is ∙ found_kept store k.more r place e
 
 -- The record to be made is the same in a store with more records.
@@ -83,10 +83,10 @@ module _ {store : List Record} (g : Good store) where
       }
 
   -- It is found where it stands.
-  pub own_found : (at : ℕ) → at < length store → find store (child store at) ≡ At at
+  pub own_found : (at : ℕ) → at < length store → find store (child store at) ≡ Some at
   own_found at l = go (find store (child store at)) refl
     where
-      go : (f : Found) → find store (child store at) ≡ f → find store (child store at) ≡ At at
-      go (At place) e =
-          e ∙ ap At (g.once place at (found_within store (child store at) place e) l (found_holds store (child store at) place e))
-      go Absent e = absurd (absent_nowhere store (child store at) e at l refl)
+      go : (f : Option ℕ) → find store (child store at) ≡ f → find store (child store at) ≡ Some at
+      go (Some place) e =
+          e ∙ ap Some (g.once place at (found_within store (child store at) place e) l (found_holds store (child store at) place e))
+      go None e = absurd (absent_nowhere store (child store at) e at l refl)

@@ -10,7 +10,7 @@ use Rattle.records.specs.declared.kind.Kind.TheVariants.{Nothing, EmptyWord, Let
 use Rattle.records.specs.declared.record.Record.{Record}
 use Rattle.records.specs.Kind.{kind_of}
 use Rattle.cards.proofs.Laws.Line.{lower_left, lower_right}
-use Rattle.store.specs.declared.finding.Found.TheVariants.{At, Absent}
+use Rattle.std.specs.declared.option.Option.TheVariants.{Some, None}
 use Rattle.store.specs.declared.making.Ruled.TheVariants.{Gives, Stays, Merges}
 use Rattle.store.specs.Making.{Making, find, intern, nothing_place, empty_word_place, sequence_rule, rule, new_record, members, merged, built, make}
 use Rattle.store.specs.Good.{is_set, SetKind, Good}
@@ -121,7 +121,7 @@ module _ {room : ℕ} {store : List Record} (ready : Ready room store) {kind let
     interned : (room' : ℕ) {grown : List Record} → Grows store grown → make room' grown kind letter left right ≡ intern room' grown made
     interned room' {grown} k = make_kept room' grown kind letter left right e ∙ ap (intern room' grown) (fresh_kept k kind letter left right left_inside right_inside)
 
-    used : {place : ℕ} → find store made ≡ At place → Placed room store kind letter left right place store
+    used : {place : ℕ} → find store made ≡ Some place → Placed room store kind letter left right place store
     used {place} f =
         let l = found_within store made place f in
         record {
@@ -136,7 +136,7 @@ module _ {room : ℕ} {store : List Record} (ready : Ready room store) {kind let
           enough = λ room' n. interned room' (grows_refl store) ∙ intern_found room' store made f;
         }
 
-    wrote : find store made ≡ Absent → length store < room → Placed room store kind letter left right (length store) (store ++ made ∷ [])
+    wrote : find store made ≡ None → length store < room → Placed room store kind letter left right (length store) (store ++ made ∷ [])
     wrote f l =
         record {
           kept = record { grows = grows; ready = record { within = omega (arith, n); good = good } };

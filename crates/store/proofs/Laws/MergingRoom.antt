@@ -4,12 +4,13 @@ use Rattle.std.specs.Prelude.{ℕ, zero, suc, ◌+◌, ◌<◌, ◌≤◌, Bool,
 use Rattle.std.proofs.Common.{arith, sym, ◌∙◌, ap, ap₂, subst, length-append, eqb-true, lt-ltb, le-ltb, eq-eqb, ne_eqb}
 use Rattle.std.proofs.lemmas.Bool.{false≢true}
 use Rattle.records.specs.declared.record.Record.{Record}
-use Rattle.store.specs.declared.interning.Made.{Made}
-use Rattle.store.specs.declared.interning.Made.TheVariants.{Placed, Full}
+use Rattle.store.proofs.Laws.Told.{Made}
+use Rattle.store.proofs.Laws.Told.{Placed, Full}
 use Rattle.store.specs.Room.{store_in, places_of, laid}
 use Rattle.store.specs.Making.{Making, placed, new_record, first, behind, members, merged, put_before, built, set_of_both, after, intern}
 use Rattle.store.specs.declared.merging.Side.{Side}
-use Rattle.store.specs.Told.{told_making, side}
+use Rattle.store.proofs.Laws.Told.{told_making}
+use Rattle.store.specs.Told.{side}
 use Rattle.store.specs.Good.{SetKind, Good, Set, member, GoodStore}
 use Rattle.store.proofs.Laws.Room.{laid_same, laid_laid}
 use Rattle.store.proofs.Laws.Wall.{grows_refl, grows_length}

@@ -16,7 +16,7 @@ use Rattle.records.specs.declared.record.Record.{Record}
 use Rattle.records.specs.Record.{record_at, number_of, no_record}
 use Rattle.cards.specs.Standing.{Obeys}
 use Rattle.records.specs.Laws.Record.{Fitting, number_one, fitting_of, bytes_drop, length_first}
-use Rattle.store.specs.declared.finding.Found.TheVariants.{At, Absent}
+use Rattle.std.specs.declared.option.Option.TheVariants.{Some, None}
 use Rattle.store.specs.Room.{store_in}
 use Rattle.store.specs.Making.{identical, find_from, find}
 use Rattle.store.proofs.Laws.Room.{child_in_room}
@@ -68,13 +68,13 @@ not-identical s r n = go (identical s r) refl
 
 -- The first record of a list, by whether it is identical.
 module _ (at : ℕ) (s : Record) (rest : List Record) (r : Record) where
-  first : identical s r ≡ true → find_from at (s ∷ rest) r ≡ At at
+  first : identical s r ≡ true → find_from at (s ∷ rest) r ≡ Some at
   unfolding find_from
-  first t = ap (λ (b : Bool). elim b [ true ↦ At at | false ↦ find_from (suc at) rest r ]) t
+  first t = ap (λ (b : Bool). elim b [ true ↦ Some at | false ↦ find_from (suc at) rest r ]) t
 
   not_first : identical s r ≡ false → find_from at (s ∷ rest) r ≡ find_from (suc at) rest r
   unfolding find_from
-  not_first t = ap (λ (b : Bool). elim b [ true ↦ At at | false ↦ find_from (suc at) rest r ]) t
+  not_first t = ap (λ (b : Bool). elim b [ true ↦ Some at | false ↦ find_from (suc at) rest r ]) t
 
 module _ (room : List ℕ) (places : ℕ) (r : Record) where
   -- The records from `at` on are the one at its place in the room and those after it.
@@ -83,7 +83,7 @@ module _ (room : List ℕ) (places : ℕ) (r : Record) where
       let within : at < length (store_in room places) = omega (arith, length_first places room) in
       rw (drop-cons (store_in room places) at no_record within, child_in_room places room at l)
 
-  at_last : find_from places (drop places (store_in room places)) r ≡ Absent
+  at_last : find_from places (drop places (store_in room places)) r ≡ None
   unfolding find_from
   at_last = rw (drop_of_length-le (store_in room places) {i = places} (omega (arith, length_first places room)))
 
@@ -99,7 +99,7 @@ module _ (room : List ℕ) (places : ℕ) (r : Record) where
       (not-identical (record_at room at) r (n at (omega arith))))
 
   told_at : Bytes room → Fitting r → (at : ℕ) → at < places → ((k : ℕ) → k < at → number_of (record_at room k) ≡ number_of r → ⊥)
-      → number_of (record_at room at) ≡ number_of r → At at ≡ find (store_in room places) r
+      → number_of (record_at room at) ≡ number_of r → Some at ≡ find (store_in room places) r
   told_at b f at l n e =
       sym
       (passed at (omega arith) n
@@ -107,7 +107,7 @@ module _ (room : List ℕ) (places : ℕ) (r : Record) where
       (first at (record_at room at) (drop (suc at) (store_in room places)) r
       (identical-of-number (record_at room at) r (fitting_of (bytes_drop (8 * at) b)) f e)))
 
-  told-absent : ((k : ℕ) → k < places → number_of (record_at room k) ≡ number_of r → ⊥) → Absent ≡ find (store_in room places) r
+  told-absent : ((k : ℕ) → k < places → number_of (record_at room k) ≡ number_of r → ⊥) → None ≡ find (store_in room places) r
   told-absent n = sym (passed places (omega arith) n ∙ at_last)
 
 pub loop-at-init : goal.loop-at-init

@@ -8,36 +8,36 @@ use lib.ListN.{length, length-append}
 use borrow.Author.Tests.{lt-ltb, le-ltb}
 use Rattle.records.specs.declared.record.Record.{Record}
 use Rattle.records.specs.Laws.Record.{length_first}
-use Rattle.store.specs.declared.finding.Found.{Found}
-use Rattle.store.specs.declared.finding.Found.TheVariants.{At, Absent}
-use Rattle.store.specs.declared.interning.Made.TheVariants.{Placed, Full}
+use Rattle.std.specs.declared.option.Option.{Option}
+use Rattle.std.specs.declared.option.Option.TheVariants.{Some, None}
+use Rattle.store.proofs.Laws.Told.{Placed, Full}
 use Rattle.store.specs.Room.{store_in, places_of, laid}
 use Rattle.store.specs.Making.{find, use_or_write, intern, after}
-use Rattle.store.specs.Told.{told_making}
+use Rattle.store.proofs.Laws.Told.{told_making}
 use Rattle.store.specs.Good.{GoodStore}
 use Rattle.store.proofs.Laws.Room.{laid_same}
 use Rattle.store.proofs.interning.intern.Goals as goal
 
-module _ (room : List ℕ) (places : ℕ) (r : Record) (good : GoodStore room places) {found : Found} (is : found ≡ find (store_in room places) r) where
-  by-found : {f : Found} → found ≡ f → intern (places_of room) (store_in room places) r ≡ use_or_write (places_of room) (store_in room places) r f
+module _ (room : List ℕ) (places : ℕ) (r : Record) (good : GoodStore room places) {found : Option ℕ} (is : found ≡ find (store_in room places) r) where
+  by-found : {f : Option ℕ} → found ≡ f → intern (places_of room) (store_in room places) r ≡ use_or_write (places_of room) (store_in room places) r f
   unfolding intern
   by-found e = ap (use_or_write (places_of room) (store_in room places) r) (sym is ∙ e)
 
-  told-found : {place : ℕ} → found ≡ At place
+  told-found : {place : ℕ} → found ≡ Some place
       → (Placed place places ≡ told_making (intern (places_of room) (store_in room places) r))
       × (room ≡ laid (after (intern (places_of room) (store_in room places) r)) room)
   told-found {place} e =
       rw (by-found e)
       (ap (Placed place) (sym (length_first places room)), sym (laid_same places room good.fits good.bytes))
 
-  told_written : found ≡ Absent → places < places_of room → {exit : List ℕ} → exit ≡ laid (store_in room places ++ r ∷ []) room
+  told_written : found ≡ None → places < places_of room → {exit : List ℕ} → exit ≡ laid (store_in room places ++ r ∷ []) room
       → (Placed places (places + 1) ≡ told_making (intern (places_of room) (store_in room places) r))
       × (exit ≡ laid (after (intern (places_of room) (store_in room places) r)) room)
   told_written e l w =
       let free : length (store_in room places) < places_of room = omega (arith, length_first places room) in
       rw (by-found e, lt-ltb (length (store_in room places)) (places_of room) free) (simp (length-append, length_first), w)
 
-  told-full : found ≡ Absent → places_of room ≤ places
+  told-full : found ≡ None → places_of room ≤ places
       → (Full places ≡ told_making (intern (places_of room) (store_in room places) r))
       × (room ≡ laid (after (intern (places_of room) (store_in room places) r)) room)
   told-full e l =
@@ -45,12 +45,12 @@ module _ (room : List ℕ) (places : ℕ) (r : Record) (good : GoodStore room pl
       rw (by-found e, le-ltb (length (store_in room places)) (places_of room) taken)
       (ap Full (sym (length_first places room)), sym (laid_same places room good.fits good.bytes))
 
-pub returns-in-At : goal.returns-in-At
-returns-in-At c =
+pub returns-in-Some : goal.returns-in-Some
+returns-in-Some c =
     let a = c.args in
     let told = told-found a.room.now a.places a.r c.requires
     c.find-found.ensures
-    c.in-At.is in
+    c.in-Some.is in
     record { value = told.0; room_after = told.1 }
 
 pub returns-then-places-room : goal.returns-then-places-room

@@ -7,13 +7,13 @@ use Rattle.records.specs.declared.kind.Kind.{Kind}
 use Rattle.records.specs.declared.record.Record.{Record}
 use Rattle.records.specs.Kind.{kind_of}
 use Rattle.records.specs.Laws.Record.{length_first}
-use Rattle.store.specs.declared.interning.Made.{Made}
-use Rattle.store.specs.declared.interning.Made.TheVariants.{Placed}
+use Rattle.store.proofs.Laws.Told.{Made}
+use Rattle.store.proofs.Laws.Told.{Placed}
 use Rattle.store.specs.declared.making.Ruled.{Ruled}
 use Rattle.store.specs.declared.making.Ruled.TheVariants.{Gives, Stays, Merges}
 use Rattle.store.specs.Room.{store_in, places_of, laid}
 use Rattle.store.specs.Making.{rule, new_record, by_rule, intern, set_of_both, make, after}
-use Rattle.store.specs.Told.{told_making}
+use Rattle.store.proofs.Laws.Told.{told_making}
 use Rattle.store.specs.Good.{SetKind, GoodStore}
 use Rattle.store.proofs.Laws.Room.{laid_same}
 use Rattle.store.proofs.Laws.Rules.{merged_kind}
