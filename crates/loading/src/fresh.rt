@@ -2,7 +2,7 @@
 ghost use Rattle.std.specs.Prelude.{◌≡◌, ◌≤◌, length};
 ghost use Rattle.store.specs.Room.{laid, fresh_store};
 
-use records::kind::{EMPTY_WORD, NOTHING};
+use records::kind::Kind;
 use records::record::{RECORD, Record, lay};
 
 // Place 0 is nothing, place 1 the empty word: two places are taken.
@@ -14,7 +14,7 @@ pub fn fresh(room: &mut [u8]) -> usize
     lay(
         room,
         Record {
-            kind: NOTHING,
+            kind: Kind::Nothing as u8,
             letter: 0,
             mark: 0,
             fourth: 0,
@@ -22,11 +22,10 @@ pub fn fresh(room: &mut [u8]) -> usize
             right: 0,
         },
     );
-    let second = RECORD;
     lay(
-        &mut room[second..],
+        &mut room[RECORD..],
         Record {
-            kind: EMPTY_WORD,
+            kind: Kind::EmptyWord as u8,
             letter: 0,
             mark: 1,
             fourth: 0,

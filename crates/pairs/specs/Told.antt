@@ -1,23 +1,29 @@
 -- What the code answers, of what opening comes to. Named by inner contracts alone.
-use Rattle.std.specs.Prelude.{ℕ, false, List, ◌≡◌, length}
+use Rattle.std.specs.Prelude.{ℕ, List, ◌≡◌}
+use Rattle.std.specs.declared.result.Result.{Result}
+use Rattle.std.specs.declared.result.Result.TheVariants.{Ok, Err}
+use Rattle.refusals.specs.declared.refusal.Refusal.{Refusal}
+use Rattle.refusals.specs.declared.refusal.Refusal.TheVariants.{NoFreePlace}
 use Rattle.refusals.specs.Order.{Good}
 use Rattle.cards.specs.Examine.{pattern_card}
-use Rattle.store.specs.Room.{laid, wrong_room}
-use Rattle.pairs.specs.declared.opening.Opened.{Opened}
-use Rattle.pairs.specs.declared.opening.Opened.TheVariants.{At, Full}
+use Rattle.store.specs.declared.work.Work.{Work}
+use Rattle.store.specs.Work.{Holds}
+use Rattle.loading.specs.Told.{Begun}
 use Rattle.pairs.specs.Opening.{Opening, opened, unopened, after_opening}
 
--- Both cards are in good standing and the room is legal.
-pub record CanOpen (left right room : List ℕ) : Type 0 where
+-- Both cards are in good standing and the call begins.
+pub record CanOpen (left right : List ℕ) (w : Work) : Type 0 where
   pub left_good : pattern_card left ≡ Good
   pub right_good : pattern_card right ≡ Good
-  pub room_legal : wrong_room (length room) ≡ false
+  pub begun : Begun w
 
-abbrev pub told_opening : Opening → Opened
-told_opening (opened x y store) = At x y (length store)
-told_opening (unopened store) = Full (length store)
+-- The places of the two roots, or the refusal that no place is free.
+abbrev pub opening_answer : Opening → Result (ℕ × ℕ) Refusal
+opening_answer (opened x y store) = Ok (x, y)
+opening_answer (unopened store) = Err NoFreePlace
 
--- The answer tells what opening comes to, and the room holds its store.
-pub record Opens (room : List ℕ) (o : Opening) (answer : Opened) (room' : List ℕ) : Type 0 where
-  pub answers : answer ≡ told_opening o
-  pub leaves : room' ≡ laid (after_opening o) room
+-- The answer tells what opening comes to, the room holds its store, and no visit is made.
+pub record Opens (w : Work) (o : Opening) (answer : Result (ℕ × ℕ) Refusal) (w' : Work) : Type 0 where
+  pub answers : answer ≡ opening_answer o
+  pub holds : Holds w (after_opening o) w'
+  pub unspent : w'.budget ≡ w.budget

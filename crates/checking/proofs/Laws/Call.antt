@@ -21,12 +21,12 @@ use Rattle.store.proofs.Laws.Wall.{grows_length}
 use Rattle.store.proofs.Laws.GoodRoom.{places_after, store_after}
 use Rattle.store.proofs.Laws.LegalRoom.{LegalRoom, legal_room}
 use Rattle.loading.proofs.Laws.FreshRoom.{grown_good}
-use Rattle.pairs.specs.declared.opening.Opened.{Opened}
-use Rattle.pairs.specs.declared.opening.Opened.TheVariants.{At, Full}
+use Rattle.pairs.specs.Laws.Told.{Opened}
+use Rattle.pairs.specs.Laws.Told.{OpenedAt as At, NotOpened as Full}
 use Rattle.pairs.specs.Room.{listed_pairs}
 use Rattle.pairs.specs.Tried.{tried}
 use Rattle.pairs.specs.Opening.{Opening, opened, unopened, open_both, after_opening}
-use Rattle.pairs.specs.Told.{CanOpen, told_opening, Opens}
+use Rattle.pairs.specs.Laws.Told.{CanOpenRoom, told_opening, OpensRoom}
 use Rattle.pairs.specs.Laws.Opening.{OpenLaw, both_opened, was_filled, open_law}
 use Rattle.checking.specs.Outcome.{check_standing, Outcome, check_loaded, check_opened, check_by, check_outcome}
 use Rattle.checking.specs.Promise.{Checks}
@@ -121,13 +121,13 @@ module _ {left right proof list room : List ℕ} {budget : ℕ} {found : Standin
     not_refused : Unrefused left right proof list (length room)
     not_refused = unrefused left right proof list (length room) (sym k.standing ∙ e)
 
-    pub can_open : CanOpen left right room
+    pub can_open : CanOpenRoom left right room
     can_open = record { left_good = not_refused.left_good; right_good = not_refused.right_good; room_legal = not_refused.room_legal }
 
     law : OpenLaw left right (places_of room) opening
     law = open_law left right k.lefts k.rights (length room) not_refused.left_good not_refused.right_good not_refused.room_legal
 
-    module _ {answer : Opened} {room₁ : List ℕ} (b : Opens room opening answer room₁) where
+    module _ {answer : Opened} {room₁ : List ℕ} (b : OpensRoom room opening answer room₁) where
       pub full_in_opening : {taken : ℕ} → answer ≡ Full taken → Checks left right proof list room budget (RefusedCheck no_free_place taken 0) room₁
       full_in_opening {taken} f = go opening refl b.answers b.leaves
         where

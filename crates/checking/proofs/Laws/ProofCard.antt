@@ -16,11 +16,12 @@ use Rattle.refusals.specs.Limits.{most_proof_records}
 use Rattle.records.specs.Record.{records}
 use Rattle.cards.specs.Examine.{proof_card}
 use Rattle.records.specs.Laws.Record.{length_records}
-use Rattle.loading.specs.declared.card.Loaded.{Loaded}
-use Rattle.loading.specs.declared.card.Loaded.TheVariants.{All, Full}
+use Rattle.loading.proofs.Laws.Told.{Loaded}
+use Rattle.loading.proofs.Laws.Told.{All, Full}
 use Rattle.store.specs.Room.{store_in, places_of, laid}
 use Rattle.loading.specs.Loading.{Loading, loaded, after_loading}
-use Rattle.loading.specs.Told.{told_loading, Mapped}
+use Rattle.loading.proofs.Laws.Told.{told_loading}
+use Rattle.loading.specs.Told.{Mapped}
 use Rattle.store.specs.Good.{GoodStore}
 use Rattle.loading.specs.Told.{Loadable}
 use Rattle.store.proofs.Laws.GoodRoom.{room_ready}

@@ -19,11 +19,11 @@ use Rattle.store.specs.Good.{GoodStore}
 use Rattle.store.proofs.Laws.Room.{laid_same, laid_laid}
 use Rattle.store.proofs.Laws.Wall.{grows_length, kept_refl, kept_trans}
 use Rattle.store.proofs.Laws.GoodRoom.{room_ready, length_store_in, length_after, places_after, store_after, good_after}
-use Rattle.derivative.specs.declared.both.Both.{Both}
-use Rattle.derivative.specs.declared.both.Both.TheVariants.{At as BothAt, Stopped as OneStopped}
+use Rattle.derivative.proofs.Laws.Told.{Both}
+use Rattle.derivative.proofs.Laws.Told.{BothAt, OneStopped}
 use Rattle.derivative.specs.Derivative.{Deriving, derived, stopped, derive}
 use Rattle.derivative.specs.Both.{DerivingBoth, both_derived, one_stopped, left_derived, right_derived, derive_both}
-use Rattle.derivative.specs.Told.{BothCome}
+use Rattle.derivative.proofs.Laws.Told.{BothComeRoom}
 use Rattle.derivative.proofs.Laws.Both.{StandsBoth, both_stand, one_stands}
 use Rattle.pairs.specs.declared.pair.Pair.{Pair}
 use Rattle.pairs.specs.Pair.{no_pair, pair_at, stands_in}
@@ -215,7 +215,7 @@ one_then cap pairs n x y c rest s b =
 
 -- Two places that both derivations reach fit 16 bits.
 pub reached_fit : {room : List ℕ} {places : ℕ} → GoodStore room places → (letter : ℕ) → IsByte letter → (x y : ℕ) → x < places → y < places
-    → (budget : ℕ) {answer : Both} {room' : List ℕ} → BothCome room (derive_both (places_of room) letter x y (store_in room places) budget) answer room'
+    → (budget : ℕ) {answer : Both} {room' : List ℕ} → BothComeRoom room (derive_both (places_of room) letter x y (store_in room places) budget) answer room'
     → {x₁ y₂ taken left : ℕ} → answer ≡ BothAt x₁ y₂ taken left → (x₁ < 65536) × (y₂ < 65536)
 reached_fit good letter byte x y l m budget c e =
     let s = both_stand good letter byte x y (l, m) budget c e in
@@ -227,7 +227,7 @@ reached_fit good letter byte x y l m budget c e =
 
 -- The code of one letter.
 module _ {room : List ℕ} {places : ℕ} (good : GoodStore room places) (pairs : List Pair) (n x y letter : ℕ) (byte : IsByte letter) (inside : (x < places) × (y < places))
-    (budget given : ℕ) {answer : Both} {room' : List ℕ} (c : BothCome room (derive_both (places_of room) letter x y (store_in room places) budget) answer room') where
+    (budget given : ℕ) {answer : Both} {room' : List ℕ} (c : BothComeRoom room (derive_both (places_of room) letter x y (store_in room places) budget) answer room') where
   abbrev one_letter : Passing
   one_letter = check_letters (places_of room) pairs n x y (letter ∷ []) (store_in room places) budget
 

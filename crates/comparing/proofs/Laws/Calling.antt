@@ -19,13 +19,13 @@ use Rattle.store.proofs.Laws.Wall.{grows_length}
 use Rattle.store.proofs.Laws.LegalRoom.{LegalRoom, legal_room}
 use Rattle.store.proofs.Laws.GoodRoom.{places_after, store_after}
 use Rattle.loading.proofs.Laws.FreshRoom.{grown_good}
-use Rattle.pairs.specs.declared.opening.Opened.{Opened}
-use Rattle.pairs.specs.declared.opening.Opened.TheVariants.{At, Full}
+use Rattle.pairs.specs.Laws.Told.{Opened}
+use Rattle.pairs.specs.Laws.Told.{OpenedAt as At, NotOpened as Full}
 use Rattle.pairs.specs.Pair.{run_of_pairs}
 use Rattle.pairs.specs.Room.{pairs_of}
 use Rattle.pairs.specs.Tried.{tried}
 use Rattle.pairs.specs.Opening.{Opening, opened, unopened, open_both, after_opening}
-use Rattle.pairs.specs.Told.{CanOpen, told_opening, Opens}
+use Rattle.pairs.specs.Laws.Told.{CanOpenRoom, told_opening, OpensRoom}
 use Rattle.pairs.specs.Laws.Tried.{tried_bytes}
 use Rattle.pairs.specs.Laws.LegalRoom.{legal_pair_room}
 use Rattle.pairs.specs.Laws.Opening.{OpenLaw, both_opened, was_filled, open_law}
@@ -117,7 +117,7 @@ module _ {left right work pairs word : List ℕ} {budget : ℕ} {found : Standin
     unfolding compare_outcome
     outcome_is = ap (λ (s : Standing). compare_by s left right (length work) (length pairs) (length word) budget) (sym c.stands ∙ e)
 
-    pub can_open : CanOpen left right work
+    pub can_open : CanOpenRoom left right work
     can_open = record { left_good = not_refused.left_good; right_good = not_refused.right_good; room_legal = not_refused.room_legal }
 
     legal : LegalRoom (length work)
@@ -126,7 +126,7 @@ module _ {left right work pairs word : List ℕ} {budget : ℕ} {found : Standin
     law : OpenLaw left right (places_of work) opens
     law = open_law left right c.lefts c.rights (length work) not_refused.left_good not_refused.right_good not_refused.room_legal
 
-    module _ {answer₀ : Opened} {work₁ : List ℕ} (o : Opens work opens answer₀ work₁) where
+    module _ {answer₀ : Opened} {work₁ : List ℕ} (o : OpensRoom work opens answer₀ work₁) where
       -- The room is full before the search begins.
       pub full_in_opening : {taken : ℕ} → answer₀ ≡ Full taken → Compares left right work pairs word budget (RefusedComparison 7 0 taken 0) work₁ pairs word
       unfolding run_of_pairs

@@ -11,21 +11,21 @@ use Rattle.store.proofs.Laws.Room.{laid_laid}
 use Rattle.store.specs.Laws.Wall.{Ready, Kept}
 use Rattle.store.proofs.Laws.Wall.{grows_length, kept_refl, kept_trans}
 use Rattle.store.proofs.Laws.GoodRoom.{room_ready, places_after}
-use Rattle.derivative.specs.declared.Derived.{Derived}
-use Rattle.derivative.specs.declared.Derived.TheVariants.{At, Stopped}
-use Rattle.derivative.specs.declared.both.Both.{Both}
-use Rattle.derivative.specs.declared.both.Both.TheVariants.{At as BothAt, Stopped as OneStopped}
+use Rattle.derivative.proofs.Laws.Told.{Derived}
+use Rattle.derivative.proofs.Laws.Told.{At, Stopped}
+use Rattle.derivative.proofs.Laws.Told.{Both}
+use Rattle.derivative.proofs.Laws.Told.{BothAt, OneStopped}
 use Rattle.derivative.specs.Derivative.{Deriving, derived, stopped, derive_to, derive}
 use Rattle.derivative.specs.Both.{DerivingBoth, both_derived, one_stopped, right_derived, left_derived, derive_both}
-use Rattle.derivative.specs.Told.{Comes, after_both, BothCome}
+use Rattle.derivative.proofs.Laws.Told.{ComesRoom, after_both, BothComeRoom}
 use Rattle.derivative.proofs.Laws.Steps.{StepLaw, was_done, was_ended}
 use Rattle.derivative.proofs.Laws.Derivative.{derive_law}
 use Rattle.derivative.proofs.Laws.Rooms.{step_keeps, not_both, Stands, stands, in_store, next, store_then}
 
 -- What comes at any depth above the place comes of the derivative.
 pub at_depth : (room : List ℕ) (places place letter budget : ℕ) {answer : Derived} {exit : List ℕ}
-    → ((depth : ℕ) → place < depth → Comes room (derive_to depth (places_of room) letter place (store_in room places) budget) answer exit)
-    → Comes room (derive (places_of room) letter place (store_in room places) budget) answer exit
+    → ((depth : ℕ) → place < depth → ComesRoom room (derive_to depth (places_of room) letter place (store_in room places) budget) answer exit)
+    → ComesRoom room (derive (places_of room) letter place (store_in room places) budget) answer exit
 unfolding derive
 at_depth room places place letter budget h = h (suc place) (omega arith)
 
@@ -60,11 +60,11 @@ module _ (letter : ℕ) (byte : IsByte letter) (cap : ℕ) (store : List Record)
   both_keeps x y l m ready = left_keeps y m (derive_law letter byte cap x store budget l ready)
 
 -- The code of the right one.
-module _ {room : List ℕ} {d : Deriving} {answer : Derived} {room' : List ℕ} (c : Comes room d answer room') (x : ℕ) where
-  pub right_at : {y taken left : ℕ} → answer ≡ At left y taken → BothCome room (right_derived x d) (BothAt x y taken left) room'
+module _ {room : List ℕ} {d : Deriving} {answer : Derived} {room' : List ℕ} (c : ComesRoom room d answer room') (x : ℕ) where
+  pub right_at : {y taken left : ℕ} → answer ≡ At left y taken → BothComeRoom room (right_derived x d) (BothAt x y taken left) room'
   right_at {y} {taken} {left} e = go d c
     where
-      go : (d : Deriving) → Comes room d answer room' → BothCome room (right_derived x d) (BothAt x y taken left) room'
+      go : (d : Deriving) → ComesRoom room d answer room' → BothComeRoom room (right_derived x d) (BothAt x y taken left) room'
       go (derived p s b) k =
           let a = k.answers in
           let i : y ≡ p = cc in
@@ -73,10 +73,10 @@ module _ {room : List ℕ} {d : Deriving} {answer : Derived} {room' : List ℕ} 
           record { answers = rw (i, j, m); leaves = k.leaves }
       go (stopped n s b) k = absurd (not_both k.answers e)
 
-  pub right_stopped : {number taken left : ℕ} → answer ≡ Stopped number taken left → BothCome room (right_derived x d) (OneStopped number taken left) room'
+  pub right_stopped : {number taken left : ℕ} → answer ≡ Stopped number taken left → BothComeRoom room (right_derived x d) (OneStopped number taken left) room'
   right_stopped {number} {taken} {left} e = go d c
     where
-      go : (d : Deriving) → Comes room d answer room' → BothCome room (right_derived x d) (OneStopped number taken left) room'
+      go : (d : Deriving) → ComesRoom room d answer room' → BothComeRoom room (right_derived x d) (OneStopped number taken left) room'
       go (derived p s b) k = absurd (not_both e k.answers)
       go (stopped n s b) k =
           let a = k.answers in
@@ -87,7 +87,7 @@ module _ {room : List ℕ} {d : Deriving} {answer : Derived} {room' : List ℕ} 
 
 -- The code of both.
 module _ {room : List ℕ} {places : ℕ} (good : GoodStore room places) (letter : ℕ) (byte : IsByte letter) (x y : ℕ) (inside : (x < places) × (y < places)) (budget : ℕ)
-    {answer : Derived} {room₁ : List ℕ} (c : Comes room (derive (places_of room) letter x (store_in room places) budget) answer room₁) where
+    {answer : Derived} {room₁ : List ℕ} (c : ComesRoom room (derive (places_of room) letter x (store_in room places) budget) answer room₁) where
   abbrev store : List Record
   store = store_in room places
 
@@ -95,11 +95,11 @@ module _ {room : List ℕ} {places : ℕ} (good : GoodStore room places) (letter
   cap = places_of room
 
   pub first_stopped : {number taken left : ℕ} → answer ≡ Stopped number taken left
-      → BothCome room (derive_both cap letter x y store budget) (OneStopped number taken left) room₁
+      → BothComeRoom room (derive_both cap letter x y store budget) (OneStopped number taken left) room₁
   unfolding derive_both
   first_stopped {number} {taken} {left} e = go (derive cap letter x store budget) c
     where
-      go : (d : Deriving) → Comes room d answer room₁ → BothCome room (left_derived cap letter y d) (OneStopped number taken left) room₁
+      go : (d : Deriving) → ComesRoom room d answer room₁ → BothComeRoom room (left_derived cap letter y d) (OneStopped number taken left) room₁
       go (derived p s b) k = absurd (not_both e k.answers)
       go (stopped n s b) k =
           let a = k.answers in
@@ -129,8 +129,8 @@ module _ {room : List ℕ} {places : ℕ} (good : GoodStore room places) (letter
         go (stops_one k _) = grows_length k.grows
 
     pub then_second : {both : Both} {room₂ : List ℕ}
-        → BothCome room₁ (right_derived next₁ (derive (places_of room₁) letter y (store_in room₁ taken) left)) both room₂
-        → BothCome room (derive_both cap letter x y store budget) both room₂
+        → BothComeRoom room₁ (right_derived next₁ (derive (places_of room₁) letter y (store_in room₁ taken) left)) both room₂
+        → BothComeRoom room (derive_both cap letter x y store budget) both room₂
     unfolding derive_both
     then_second k =
         let s = stood in
@@ -167,7 +167,7 @@ not_both_told : {answer : Both} {x y taken left number taken' left' : ℕ} → a
 not_both_told e f = let z : ◌≡◌ {A = ℕ} 0 1 = cc in omega arith
 
 module _ {room : List ℕ} {places : ℕ} (good : GoodStore room places) (letter : ℕ) (byte : IsByte letter) (x y : ℕ) (inside : (x < places) × (y < places)) (budget : ℕ)
-    {answer : Both} {room' : List ℕ} (c : BothCome room (derive_both (places_of room) letter x y (store_in room places) budget) answer room') where
+    {answer : Both} {room' : List ℕ} (c : BothComeRoom room (derive_both (places_of room) letter x y (store_in room places) budget) answer room') where
   abbrev whole : DerivingBoth
   whole = derive_both (places_of room) letter x y (store_in room places) budget
 
@@ -177,7 +177,7 @@ module _ {room : List ℕ} {places : ℕ} (good : GoodStore room places) (letter
   pub both_stand : {x₁ y₁ taken left : ℕ} → answer ≡ BothAt x₁ y₁ taken left → StandsBoth room places budget whole x₁ y₁ taken left room'
   both_stand {x₁} {y₁} {taken} {left} e = go whole_keeps c
     where
-      go : {d : DerivingBoth} → KeepsBoth (places_of room) (store_in room places) budget d → BothCome room d answer room'
+      go : {d : DerivingBoth} → KeepsBoth (places_of room) (store_in room places) budget d → BothComeRoom room d answer room'
           → StandsBoth room places budget d x₁ y₁ taken left room'
       go (derives_both {x = x₂} {y = y₂} {store'} {left = left₂} k l m n) w =
           let a = w.answers in
@@ -190,7 +190,7 @@ module _ {room : List ℕ} {places : ℕ} (good : GoodStore room places) (letter
   pub one_stands : {number taken left : ℕ} → answer ≡ OneStopped number taken left → StoppedOne room places budget whole number taken left room'
   one_stands {number} {taken} {left} e = go whole_keeps c
     where
-      go : {d : DerivingBoth} → KeepsBoth (places_of room) (store_in room places) budget d → BothCome room d answer room'
+      go : {d : DerivingBoth} → KeepsBoth (places_of room) (store_in room places) budget d → BothComeRoom room d answer room'
           → StoppedOne room places budget d number taken left room'
       go (derives_both k l m n) w = absurd (not_both_told w.answers e)
       go (stops_one {number = number₂} {store'} {left = left₂} k n) w =

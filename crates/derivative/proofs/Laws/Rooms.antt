@@ -20,13 +20,13 @@ use Rattle.store.proofs.Laws.Room.{laid_same, laid_laid, child_in_room}
 use Rattle.store.specs.Laws.Wall.{Ready, Kept}
 use Rattle.store.proofs.Laws.Wall.{grows_length, kept_refl, kept_trans, Makeable}
 use Rattle.store.proofs.Laws.GoodRoom.{room_ready, length_store_in, places_after, store_after, good_after}
-use Rattle.derivative.specs.declared.Derived.{Derived}
-use Rattle.derivative.specs.declared.Derived.TheVariants.{At, Stopped}
+use Rattle.derivative.proofs.Laws.Told.{Derived}
+use Rattle.derivative.proofs.Laws.Told.{At, Stopped}
 use Rattle.derivative.specs.declared.Visited.{Visited}
 use Rattle.derivative.specs.declared.Visited.TheVariants.{Leaf, Parts}
 use Rattle.derivative.specs.Derivative.{Deriving, derived, stopped, price, and_then, of_making, making, after_product, derive_record, derive_to}
 use Rattle.derivative.specs.Parts.{asks, asked, product_of, with_left, derive_parts, derive_asked}
-use Rattle.derivative.specs.Told.{after_deriving, Comes, of_made}
+use Rattle.derivative.proofs.Laws.Told.{after_deriving, ComesRoom, of_made}
 use Rattle.derivative.proofs.Laws.Steps.{Step, StepLaw, was_done, was_ended, two_makeable, making_law}
 use Rattle.derivative.proofs.Laws.Derivative.{is_unpaid, is_paid, derive_to_law}
 
@@ -111,7 +111,7 @@ pub record Stands (room : List ℕ) (places : ℕ) (d : Deriving) (x taken rest 
   pub inside : x < length store
 
 pub stands : {room : List ℕ} {places : ℕ} {d : Deriving} {answer : Derived} {room' : List ℕ}
-    → Keeps (places_of room) (store_in room places) d → Comes room d answer room'
+    → Keeps (places_of room) (store_in room places) d → ComesRoom room d answer room'
     → {x taken rest : ℕ} → answer ≡ At rest x taken → Stands room places d x taken rest room'
 stands (derives {place} {store'} k l) c {x} e =
     let a = c.answers in
@@ -127,9 +127,9 @@ stands (derives {place} {store'} k l) c {x} e =
 stands (stops k) c e = absurd (not_both c.answers e)
 
 -- A stop stays a stop.
-pub stopped_then : {room : List ℕ} {d : Deriving} {answer : Derived} {room' : List ℕ} → Comes room d answer room'
+pub stopped_then : {room : List ℕ} {d : Deriving} {answer : Derived} {room' : List ℕ} → ComesRoom room d answer room'
     → {number taken rest : ℕ} → answer ≡ Stopped number taken rest
-    → (next : ℕ → List Record → ℕ → Deriving) → Comes room (and_then d next) (Stopped number taken rest) room'
+    → (next : ℕ → List Record → ℕ → Deriving) → ComesRoom room (and_then d next) (Stopped number taken rest) room'
 stopped_then {d = derived place store budget} c e next = absurd (not_both e c.answers)
 stopped_then {d = stopped number store budget} c e next = record { answers = sym e ∙ c.answers; leaves = c.leaves }
 
@@ -162,8 +162,8 @@ module _ {room : List ℕ} {places : ℕ} (good : GoodStore room places) {d : De
   -- What follows goes on from the store that stands.
   comes_then : (then : ℕ → ℕ → List Record → ℕ → Deriving)
       → Keeps (places_of room') (store_in room' taken) (then (places_of room') x (store_in room' taken) rest)
-      → {answer : Derived} {room'' : List ℕ} → Comes room' (then (places_of room') x (store_in room' taken) rest) answer room''
-      → Comes room (and_then d (then (places_of room))) answer room''
+      → {answer : Derived} {room'' : List ℕ} → ComesRoom room' (then (places_of room') x (store_in room' taken) rest) answer room''
+      → ComesRoom room (and_then d (then (places_of room))) answer room''
   comes_then then k c =
       let d₂ = then (places_of room) x s.store rest in
       let same : then (places_of room') x (store_in room' taken) rest ≡ d₂ = rw (places_then, store_then) in
@@ -178,14 +178,14 @@ module _ {room : List ℕ} {places : ℕ} (good : GoodStore room places) {d : De
 -- Where nothing is made the room stays as it is.
 
 module _ {room : List ℕ} {places : ℕ} (good : GoodStore room places) where
-  derived_here : (x rest : ℕ) → Comes room (derived x (store_in room places) rest) (At rest x places) room
+  derived_here : (x rest : ℕ) → ComesRoom room (derived x (store_in room places) rest) (At rest x places) room
   derived_here x rest =
       record {
         answers = ap (λ (n : ℕ). At rest x n) (sym (length_store_in room places));
         leaves = sym (laid_same places room good.fits good.bytes);
       }
 
-  stopped_here : (number rest : ℕ) → Comes room (stopped number (store_in room places) rest) (Stopped number places rest) room
+  stopped_here : (number rest : ℕ) → ComesRoom room (stopped number (store_in room places) rest) (Stopped number places rest) room
   stopped_here number rest =
       record {
         answers = ap (λ (n : ℕ). Stopped number n rest) (sym (length_store_in room places));
@@ -194,7 +194,7 @@ module _ {room : List ℕ} {places : ℕ} (good : GoodStore room places) where
 
 -- What was made, by what the code told of it.
 comes_made : {room : List ℕ} (m : Making) (budget : ℕ) {told : Made} {exit : List ℕ} → told ≡ told_making m → exit ≡ laid (after m) room
-    → {answer : Derived} → answer ≡ of_made told budget → Comes room (of_making m budget) answer exit
+    → {answer : Derived} → answer ≡ of_made told budget → ComesRoom room (of_making m budget) answer exit
 comes_made (placed place store) budget e l f = record { answers = f ∙ ap (λ (t : Made). of_made t budget) e; leaves = l }
 comes_made (full store) budget e l f = record { answers = f ∙ ap (λ (t : Made). of_made t budget) e; leaves = l }
 
@@ -207,20 +207,20 @@ module _ (letter : ℕ) (room : List ℕ) (places : ℕ) where
   store = store_in room places
 
   abbrev Derives : (place budget : ℕ) → Derived → List ℕ → Type 0
-  Derives place budget answer exit = (depth : ℕ) → place < depth → Comes room (derive_to depth cap letter place store budget) answer exit
+  Derives place budget answer exit = (depth : ℕ) → place < depth → ComesRoom room (derive_to depth cap letter place store budget) answer exit
 
   abbrev DerivesRight : (x right : ℕ) (both : Bool) (budget : ℕ) → Derived → List ℕ → Type 0
   DerivesRight x right both budget answer exit =
-      (depth : ℕ) → cond both right 0 < depth → Comes room (after_product (D letter depth cap) cap right both x store budget) answer exit
+      (depth : ℕ) → cond both right 0 < depth → ComesRoom room (after_product (D letter depth cap) cap right both x store budget) answer exit
 
   abbrev DerivesLeft : (x right : ℕ) (product both : Bool) (budget : ℕ) → Derived → List ℕ → Type 0
   DerivesLeft x right product both budget answer exit =
-      (depth : ℕ) → cond both right 0 < depth → Comes room (with_left (D letter depth cap) cap x right product both store budget) answer exit
+      (depth : ℕ) → cond both right 0 < depth → ComesRoom room (with_left (D letter depth cap) cap x right product both store budget) answer exit
 
   abbrev DerivesParts : (left right : ℕ) (product both : Bool) (budget : ℕ) → Derived → List ℕ → Type 0
   DerivesParts left right product both budget answer exit =
       (depth : ℕ) → left < depth → cond both right 0 < depth
-      → Comes room (derive_parts (D letter depth cap) cap left right product both store budget) answer exit
+      → ComesRoom room (derive_parts (D letter depth cap) cap left right product both store budget) answer exit
 
 -- What making ensures of such a room.
 abbrev Makes : List ℕ → Making → Made → List ℕ → Type 0
@@ -279,7 +279,7 @@ module _ (letter : ℕ) (byte : IsByte letter) {room : List ℕ} {places : ℕ} 
     abbrev producing : Making
     producing = product_of (places_of room) (store_in room places) x right product
 
-    product_comes : {told' : Made} → told ≡ told' → Comes room (of_making producing budget) (of_made told' budget) room₁
+    product_comes : {told' : Made} → told ≡ told' → ComesRoom room (of_making producing budget) (of_made told' budget) room₁
     product_comes e = comes_made producing budget made.0 made.1 (ap (λ (m : Made). of_made m budget) (sym e))
 
     product_stands : {y taken : ℕ} → told ≡ Placed y taken → Stands room places (of_making producing budget) y taken budget room₁
@@ -412,7 +412,7 @@ module _ (letter : ℕ) {room : List ℕ} {places : ℕ} (good : GoodStore room 
     module _ (paid : fee ≤ budget) {v : Visited} (says : v ≡ asked (store_in room places) letter place) where
       visited : {answer : Derived} {exit : List ℕ}
           → ((depth : ℕ) → place ≤ depth
-          → Comes room (derive_asked v (D letter depth (places_of room)) (places_of room) (store_in room places) (budget - fee)) answer exit)
+          → ComesRoom room (derive_asked v (D letter depth (places_of room)) (places_of room) (store_in room places) (budget - fee)) answer exit)
           → Derives letter room places place budget answer exit
       visited h zero l = absurd (omega arith)
       visited h (suc depth) l =

@@ -10,12 +10,13 @@ use Rattle.cards.specs.Examine.{pattern_card}
 use Rattle.refusals.specs.Limits.{most_pattern_records}
 use Rattle.records.specs.Laws.Record.{length_records}
 use Rattle.cards.proofs.Laws.Examine.{good_length}
-use Rattle.loading.specs.declared.card.Loaded.{Loaded}
-use Rattle.loading.specs.declared.card.Loaded.TheVariants.{All, Full}
-use Rattle.loading.specs.declared.entering.Entered.TheVariants.{At, Full as NotEntered}
+use Rattle.loading.proofs.Laws.Told.{Loaded}
+use Rattle.loading.proofs.Laws.Told.{All, Full}
+use Rattle.loading.proofs.Laws.Told.{At, NotEntered}
 use Rattle.store.specs.Room.{store_in, laid}
 use Rattle.loading.specs.Loading.{root, Loading, after_loading}
-use Rattle.loading.specs.Told.{told_loading, Mapped, Enters}
+use Rattle.loading.proofs.Laws.Told.{told_loading, EntersRoom}
+use Rattle.loading.specs.Told.{Mapped}
 use Rattle.store.specs.Good.{GoodStore}
 use Rattle.refusals.specs.Limits.{most_places}
 use Rattle.loading.specs.Told.{Loadable}
@@ -68,12 +69,12 @@ module _ {room : List ℕ} {places : ℕ} (g : GoodStore room places) (card : Li
       (b : (room₁ ≡ laid (after_loading loads) room) × Mapped loads map) where
     -- The card is loaded.
     module _ {taken : ℕ} (e : answer ≡ All taken) where
-      pub entered_at : Enters room loads (At (get_or map (length card / 8 - 1) 0) taken) room₁
+      pub entered_at : EntersRoom room loads (At (get_or map (length card / 8 - 1) 0) taken) room₁
       entered_at = go law a b.0 b.1
         where
           go : {l : Loading} {s₀ : List Record} → LoadLaw (length room / 8) (records card) s₀ [] (records card) l
               → answer ≡ told_loading l → room₁ ≡ laid (after_loading l) room → Mapped l map
-              → Enters room l (At (get_or map (length card / 8 - 1) 0) taken) room₁
+              → EntersRoom room l (At (get_or map (length card / 8 - 1) 0) taken) room₁
           go (all_loaded {store' = s} h) t w m =
               let stood : taken ≡ length s = cc in
               record { answers = ap₂ At (at_root map h m) stood; leaves = w }
@@ -89,11 +90,11 @@ module _ {room : List ℕ} {places : ℕ} (g : GoodStore room places) (card : Li
           go (was_full f) t m = absurd (not_both e t)
 
     -- The room is full.
-    pub entered_full : {taken : ℕ} → answer ≡ Full taken → Enters room loads (NotEntered taken) room₁
+    pub entered_full : {taken : ℕ} → answer ≡ Full taken → EntersRoom room loads (NotEntered taken) room₁
     entered_full {taken} e = go law a b.0
       where
         go : {l : Loading} {s₀ : List Record} → LoadLaw (length room / 8) (records card) s₀ [] (records card) l
-            → answer ≡ told_loading l → room₁ ≡ laid (after_loading l) room → Enters room l (NotEntered taken) room₁
+            → answer ≡ told_loading l → room₁ ≡ laid (after_loading l) room → EntersRoom room l (NotEntered taken) room₁
         go (all_loaded h) t w = absurd (not_both t e)
         go (was_full {store' = s} f) t w =
             let stood : taken ≡ length s = cc in

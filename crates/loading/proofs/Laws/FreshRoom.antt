@@ -7,10 +7,10 @@ use Rattle.records.specs.declared.record.Record.{Record}
 use Rattle.refusals.specs.Order.{Good}
 use Rattle.records.specs.Record.{records}
 use Rattle.cards.specs.Examine.{pattern_card}
-use Rattle.loading.specs.declared.entering.Entered.{Entered}
+use Rattle.loading.proofs.Laws.Told.{Entered}
 use Rattle.store.specs.Room.{places_of, laid, fresh_store}
 use Rattle.loading.specs.Loading.{Loading, load, after_loading}
-use Rattle.loading.specs.Told.{Enters}
+use Rattle.loading.proofs.Laws.Told.{EntersRoom}
 use Rattle.store.specs.Good.{GoodStore}
 use Rattle.store.proofs.Laws.Room.{store_of_laid, laid_laid, length_laid, bytes_laid}
 use Rattle.store.specs.Laws.Wall.{Ready, Kept}
@@ -84,7 +84,7 @@ module _ (room : List ℕ) (bytes : Bytes room) (legal : LegalRoom (length room)
 
     -- A card entered there is loaded from the fresh store.
     pub entered_fresh : (card : List ℕ) → Bytes card → pattern_card card ≡ Good → {answer : Entered} {room₂ : List ℕ}
-        → Enters room₁ (loading_in room₁ places card) answer room₂ → Enters room (loading_fresh card room) answer room₂
+        → EntersRoom room₁ (loading_in room₁ places card) answer room₂ → EntersRoom room (loading_fresh card room) answer room₂
     entered_fresh card cards good e =
         let f = rw (loads_fresh card, r) at e in
         record { answers = f.answers; leaves = f.leaves ∙ over_fresh room (loading_kept (load_fresh_law legal card cards good)) }

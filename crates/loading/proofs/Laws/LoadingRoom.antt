@@ -16,13 +16,14 @@ use Rattle.cards.proofs.Laws.Line.{lower_left, lower_right, field_same}
 use Rattle.records.specs.Laws.Record.{record_at_place, length_records}
 use Rattle.store.proofs.Laws.Told.{Made}
 use Rattle.store.proofs.Laws.Told.{Placed, Full}
-use Rattle.loading.specs.declared.card.Loaded.{Loaded}
-use Rattle.loading.specs.declared.card.Loaded.TheVariants.{All, Full as AllFull}
+use Rattle.loading.proofs.Laws.Told.{Loaded}
+use Rattle.loading.proofs.Laws.Told.{All, Full as AllFull}
 use Rattle.store.specs.Room.{store_in, places_of, laid}
 use Rattle.store.specs.Making.{Making, make, after}
 use Rattle.loading.specs.Loading.{Loading, loaded, child_place, left_place, right_place, make_loaded, load_after, load, after_loading}
 use Rattle.store.proofs.Laws.Told.{told_making}
-use Rattle.loading.specs.Told.{told_loading, Mapped}
+use Rattle.loading.proofs.Laws.Told.{told_loading}
+use Rattle.loading.specs.Told.{Mapped}
 use Rattle.store.specs.Good.{GoodStore}
 use Rattle.loading.specs.Told.{Loadable}
 use Rattle.store.proofs.Laws.Room.{laid_same, laid_laid}

@@ -18,16 +18,16 @@ use Rattle.store.proofs.Laws.Room.{laid_laid}
 use Rattle.store.specs.Laws.Wall.{Kept}
 use Rattle.store.proofs.Laws.GoodRoom.{places_after, store_after}
 use Rattle.store.proofs.Laws.LegalRoom.{LegalRoom, legal_room}
-use Rattle.loading.specs.declared.entering.Entered.{Entered}
-use Rattle.loading.specs.declared.entering.Entered.TheVariants.{At, Full}
+use Rattle.loading.proofs.Laws.Told.{Entered}
+use Rattle.loading.proofs.Laws.Told.{At, NotEntered}
 use Rattle.loading.specs.Loading.{root, Loading, loaded, no_room, after_loading}
-use Rattle.loading.specs.Told.{told_entering, Enters}
+use Rattle.loading.proofs.Laws.Told.{told_entering, EntersRoom}
 use Rattle.loading.proofs.Laws.Loading.{LoadLaw, all_loaded, was_full}
 use Rattle.loading.proofs.Laws.LoadingRoom.{loading_in}
 use Rattle.loading.proofs.Laws.Cards.{card_loaded}
 use Rattle.loading.proofs.Laws.FreshRoom.{loading_fresh, grown_good, load_fresh_law, lent_fresh, entered_fresh}
 use Rattle.derivative.specs.Derivative.{Deriving, derived, stopped}
-use Rattle.derivative.specs.Told.{after_deriving}
+use Rattle.derivative.proofs.Laws.Told.{after_deriving}
 use Rattle.derivative.proofs.Laws.Rooms.{step_keeps, keeps_longer}
 use Rattle.matching.specs.Refusals.{standing_of}
 use Rattle.matching.specs.Fits.{Outcome, follow, judged, follow_loaded, fits_in, fits_standing, fits_outcome}
@@ -88,7 +88,7 @@ module _ {room : List ℕ} {l : Loading} {place taken : ℕ} {room₁ : List ℕ
         }
 
 -- What the code told of entering is one thing.
-not_both : {entered : Entered} {place taken stood : ℕ} → entered ≡ At place taken → entered ≡ Full stood → ⊥
+not_both : {entered : Entered} {place taken stood : ℕ} → entered ≡ At place taken → entered ≡ NotEntered stood → ⊥
 not_both e f = let z : ◌≡◌ {A = ℕ} 0 1 = cc in omega arith
 
 -- What was lent to a call of `fits` are bytes, and `found` is the first refusal that needs no work.
@@ -145,11 +145,11 @@ module _ {card word room : List ℕ} {budget : ℕ} {found : Standing} (k : Lent
       pub can_enter : GoodStore room₁ places × (pattern_card card ≡ Good)
       can_enter = (lent_fresh room k.bytes legal fresh two, not_refused.card_good)
 
-      module _ {entered : Entered} {room₂ : List ℕ} (b : Enters room₁ (loading_in room₁ places card) entered room₂) where
-        from_lent : Enters room entering entered room₂
+      module _ {entered : Entered} {room₂ : List ℕ} (b : EntersRoom room₁ (loading_in room₁ places card) entered room₂) where
+        from_lent : EntersRoom room entering entered room₂
         from_lent = entered_fresh room k.bytes legal fresh two card k.cards not_refused.card_good b
 
-        pub full_in_loading : {taken : ℕ} → entered ≡ Full taken → Fits card word room budget (RefusedMatch no_free_place taken 0) room₂
+        pub full_in_loading : {taken : ℕ} → entered ≡ NotEntered taken → Fits card word room budget (RefusedMatch no_free_place taken 0) room₂
         full_in_loading {taken} f = go entering refl from_lent.answers from_lent.leaves
           where
             go : (l : Loading) → entering ≡ l → entered ≡ told_entering l → room₂ ≡ laid (after_loading l) room

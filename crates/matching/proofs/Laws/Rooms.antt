@@ -17,10 +17,10 @@ use Rattle.store.proofs.Laws.Room.{laid_same, laid_laid}
 use Rattle.store.specs.Laws.Wall.{Kept}
 use Rattle.store.proofs.Laws.Wall.{grows_length, kept_refl, kept_trans}
 use Rattle.store.proofs.Laws.GoodRoom.{room_ready, length_store_in, length_after, places_after, store_after, good_after}
-use Rattle.derivative.specs.declared.Derived.{Derived}
-use Rattle.derivative.specs.declared.Derived.TheVariants.{At, Stopped}
+use Rattle.derivative.proofs.Laws.Told.{Derived}
+use Rattle.derivative.proofs.Laws.Told.{At, Stopped}
 use Rattle.derivative.specs.Derivative.{Deriving, derived, stopped, and_then, derive}
-use Rattle.derivative.specs.Told.{told_deriving, after_deriving, Comes}
+use Rattle.derivative.proofs.Laws.Told.{told_deriving, after_deriving, ComesRoom}
 use Rattle.derivative.proofs.Laws.Derivative.{derive_law}
 use Rattle.derivative.proofs.Laws.Rooms.{Keeps, derives, stops, step_keeps, keeps_longer, not_both, Stands as Stood, stands, stopped_then, Next, in_store, next, store_then}
 use Rattle.matching.specs.Fits.{follow, judged}
@@ -59,7 +59,7 @@ at_first room places place word budget g l =
 
 -- A stop keeps what the step that stopped kept.
 keeps_stopped : {cap : ℕ} {store : List Record} {room : List ℕ} {d : Deriving} {answer : Derived} {room' : List ℕ} → Keeps cap store d
-    → Comes room d answer room' → {number taken left : ℕ} → answer ≡ Stopped number taken left
+    → ComesRoom room d answer room' → {number taken left : ℕ} → answer ≡ Stopped number taken left
     → (then : ℕ → List Record → ℕ → Deriving) → Keeps cap store (and_then d then)
 keeps_stopped (derives k l) c e then = absurd (not_both e c.answers)
 keeps_stopped (stops k) c e then = stops k
@@ -88,7 +88,7 @@ module _ {room₀ : List ℕ} {places place : ℕ} {word : List ℕ} {budget : �
   store_now = ap₂ store_in u.room_is u.taken_is ∙ store_after room₀ u.kept
 
   -- Where no letter is left, the place reached is the answer.
-  pub at_last : length word ≤ at → Comes room₀ (following_in room₀ places place word budget) (At left here taken) room
+  pub at_last : length word ≤ at → ComesRoom room₀ (following_in room₀ places place word budget) (At left here taken) room
   unfolding follow
   at_last l =
       let e : drop at word ≡ [] = drop_of_length-le word {i = at} l in
@@ -97,7 +97,7 @@ module _ {room₀ : List ℕ} {places place : ℕ} {word : List ℕ} {budget : �
 
   -- One step, by the letter numbered `at`.
   module _ (l : at < length word) (byte : get_or word at 0 < 256) {stepped : Derived} {room₁ : List ℕ}
-      (c : Comes room (derive (places_of room) (get_or word at 0) here (store_in room taken) left) stepped room₁) where
+      (c : ComesRoom room (derive (places_of room) (get_or word at 0) here (store_in room taken) left) stepped room₁) where
     abbrev first : Deriving
     first = derive cap (get_or word at 0) here store left
 
@@ -107,7 +107,7 @@ module _ {room₀ : List ℕ} {places place : ℕ} {word : List ℕ} {budget : �
     keeps : Keeps cap store first
     keeps = step_keeps (derive_law (get_or word at 0) byte cap here store left u.inside u.kept.ready)
 
-    comes : Comes room first stepped room₁
+    comes : ComesRoom room first stepped room₁
     comes = rw (places_now, store_now) at c
 
     goes_on : following_in room₀ places place word budget ≡ and_then first onward
@@ -115,7 +115,7 @@ module _ {room₀ : List ℕ} {places place : ℕ} {word : List ℕ} {budget : �
     goes_on = u.rest ∙ ap (λ (w : List ℕ). follow cap w here store left) (drop-cons word at 0 l)
 
     pub when_stopped : {number taken' left' : ℕ} → stepped ≡ Stopped number taken' left'
-        → Comes room₀ (following_in room₀ places place word budget) (Stopped number taken' left') room₁
+        → ComesRoom room₀ (following_in room₀ places place word budget) (Stopped number taken' left') room₁
     when_stopped e =
         let s = stopped_then comes e onward in
         let longer = keeps_longer (keeps_stopped keeps comes e onward) in
@@ -162,7 +162,7 @@ pub record Followed (room : List ℕ) (places place : ℕ) (word : List ℕ) (bu
   pub good : GoodStore room places
   pub inside : place < places
   pub letters : Bytes word
-  pub comes : Comes room (following_in room places place word budget) end room₁
+  pub comes : ComesRoom room (following_in room places place word budget) end room₁
 
 -- What was followed, judged by its last place.
 module _ {room : List ℕ} {places place : ℕ} {word : List ℕ} {budget : ℕ} {end : Derived} {room₁ : List ℕ}
@@ -212,7 +212,7 @@ module _ {room : List ℕ} {places place : ℕ} {word : List ℕ} {budget : ℕ}
     pub said_refused : Judges room (judged budget whole) (Refused number taken (budget - left)) room₁
     said_refused = go whole w.comes
       where
-        go : (d : Deriving) → Comes room d end room₁ → Judges room (judged budget d) (Refused number taken (budget - left)) room₁
+        go : (d : Deriving) → ComesRoom room d end room₁ → Judges room (judged budget d) (Refused number taken (budget - left)) room₁
         go (derived p s b) k = absurd (not_both e k.answers)
         go (stopped n s b) k =
             let a = k.answers in

@@ -3,15 +3,15 @@
 use Rattle.matching.proofs.Laws.Rooms.{following_in}
 use Rattle.std.proofs.Common.{ℕ, ◌<◌, List, get_or}
 use Rattle.store.specs.Good.{GoodStore}
-use Rattle.derivative.specs.declared.Derived.{Derived}
-use Rattle.derivative.specs.Told.{Comes}
+use Rattle.derivative.proofs.Laws.Told.{Derived}
+use Rattle.derivative.proofs.Laws.Told.{ComesRoom}
 use Rattle.language.proofs.Laws.Words.{bytes_all}
 use Rattle.matching.proofs.Laws.Rooms.{Followed, can_be_read, reached_left, said_yes, said_no, stopped_left, said_refused}
 use Rattle.matching.proofs.judge.Goals as goal
 
 -- What is known once the word was followed.
 followed : {room : List ℕ} {places place : ℕ} {word : List ℕ} {budget : ℕ} {end : Derived} {room₁ : List ℕ} → GoodStore room places → place < places
-    → ((i : ℕ) → get_or word i 0 < 256) → Comes room (following_in room places place word budget) end room₁ → Followed room places place word budget end room₁
+    → ((i : ℕ) → get_or word i 0 < 256) → ComesRoom room (following_in room places place word budget) end room₁ → Followed room places place word budget end room₁
 followed {word = word} g l b f = record { good = g; inside = l; letters = bytes_all word b; comes = f }
 
 pub marked_at-requires : goal.marked_at-requires

@@ -10,12 +10,12 @@ use Rattle.records.specs.declared.record.Record.{Record}
 use Rattle.refusals.specs.Order.{Good}
 use Rattle.records.specs.Record.{records}
 use Rattle.cards.specs.Examine.{pattern_card}
-use Rattle.loading.specs.declared.entering.Entered.{Entered}
-use Rattle.loading.specs.declared.entering.Entered.TheVariants.{At, Full}
+use Rattle.loading.proofs.Laws.Told.{Entered}
+use Rattle.loading.proofs.Laws.Told.{At, NotEntered}
 use Rattle.store.specs.Room.{store_in, places_of, laid, fresh_store}
 use Rattle.refusals.specs.Limits.{least_room}
 use Rattle.loading.specs.Loading.{Loading, loaded, no_room, load, root}
-use Rattle.loading.specs.Told.{Enters}
+use Rattle.loading.proofs.Laws.Told.{EntersRoom}
 use Rattle.store.specs.Good.{GoodStore}
 use Rattle.store.proofs.Laws.Room.{laid_laid, store_of_laid}
 use Rattle.store.specs.Laws.Wall.{Kept}
@@ -24,20 +24,20 @@ use Rattle.store.proofs.Laws.GoodRoom.{places_after, store_after}
 use Rattle.store.proofs.Laws.LegalRoom.{LegalRoom, legal_room}
 use Rattle.loading.proofs.Laws.Loading.{LoadLaw, all_loaded, was_full, load_law}
 use Rattle.loading.proofs.Laws.Cards.{good_card}
-use Rattle.pairs.specs.declared.opening.Opened.{Opened}
-use Rattle.pairs.specs.declared.opening.Opened.TheVariants.{At as OpenedAt, Full as NotOpened}
+use Rattle.pairs.specs.Laws.Told.{Opened}
+use Rattle.pairs.specs.Laws.Told.{OpenedAt, NotOpened}
 use Rattle.pairs.specs.Opening.{Opening, right_opened, left_opened, open_both, after_opening}
-use Rattle.pairs.specs.Told.{CanOpen, Opens}
+use Rattle.pairs.specs.Laws.Told.{CanOpenRoom, OpensRoom}
 use Rattle.loading.proofs.Laws.FreshRoom.{length_fresh, fresh_in, fresh_is_ready, over_fresh, grown_good}
 
 -- What the code told of entering a card is one thing.
-not_both : {answer : Entered} {place taken stood : ℕ} → answer ≡ At place taken → answer ≡ Full stood → ⊥
+not_both : {answer : Entered} {place taken stood : ℕ} → answer ≡ At place taken → answer ≡ NotEntered stood → ⊥
 not_both e f = let z : ◌≡◌ {A = ℕ} 0 1 = cc in omega arith
 
 -- The right card, entered or not.
 module _ {room room₁ : List ℕ} {answer : Entered} (x : ℕ) where
-  pub right_at : (l : Loading) → Enters room l answer room₁ → {y taken : ℕ} → answer ≡ At y taken
-      → Opens room (right_opened x l) (OpenedAt x y taken) room₁
+  pub right_at : (l : Loading) → EntersRoom room l answer room₁ → {y taken : ℕ} → answer ≡ At y taken
+      → OpensRoom room (right_opened x l) (OpenedAt x y taken) room₁
   right_at (loaded places store) n {y} {taken} e =
       let a = n.answers in
       let i : y ≡ root places = cc in
@@ -45,8 +45,8 @@ module _ {room room₁ : List ℕ} {answer : Entered} (x : ℕ) where
       record { answers = ap₂ (OpenedAt x) i j; leaves = n.leaves }
   right_at (no_room store) n e = absurd (not_both e n.answers)
 
-  pub right_full : (l : Loading) → Enters room l answer room₁ → {taken : ℕ} → answer ≡ Full taken
-      → Opens room (right_opened x l) (NotOpened taken) room₁
+  pub right_full : (l : Loading) → EntersRoom room l answer room₁ → {taken : ℕ} → answer ≡ NotEntered taken
+      → OpensRoom room (right_opened x l) (NotOpened taken) room₁
   right_full (loaded places store) n e = absurd (not_both n.answers e)
   right_full (no_room store) n {taken} e =
       let a = n.answers in
@@ -89,8 +89,8 @@ module _ {room : List ℕ} {l : Loading} {x taken : ℕ} {room₁ : List ℕ} (n
     longer = right_longer (root n.places) (load_law (places_of room) (records right) (good_card right rights good) n.store n.kept.ready)
 
     told_of_room : {answer : Opened} {room₂ : List ℕ}
-        → Opens room₁ (right_opened x (load (places_of room₁) (store_in room₁ taken) (records right))) answer room₂
-        → Opens room (left_opened (places_of room) (records right) l) answer room₂
+        → OpensRoom room₁ (right_opened x (load (places_of room₁) (store_in room₁ taken) (records right))) answer room₂
+        → OpensRoom room (left_opened (places_of room) (records right) l) answer room₂
     told_of_room o =
         let p = rw same_onward at o in
         rw n.is
@@ -99,7 +99,7 @@ module _ {room : List ℕ} {l : Loading} {x taken : ℕ} {room₁ : List ℕ} (n
           leaves = p.leaves ∙ ap (laid (after_opening onward)) n.room_is ∙ laid_laid n.store (after_opening onward) room longer;
         })
 
-module _ (left right room : List ℕ) (lefts : Bytes left) (rights : Bytes right) (bytes : Bytes room) (can : CanOpen left right room) where
+module _ (left right room : List ℕ) (lefts : Bytes left) (rights : Bytes right) (bytes : Bytes room) (can : CanOpenRoom left right room) where
   -- The room has space for a fresh store.
 
   legal : LegalRoom (length room)
@@ -122,8 +122,8 @@ module _ (left right room : List ℕ) (lefts : Bytes left) (rights : Bytes right
         rw (r, two, store_of_laid fresh_store room)
         (ap (λ (k : ℕ). load (k / 8) fresh_store (records left)) (length_fresh room room_enough))
 
-    module _ {entered : Entered} {room₂ : List ℕ} (c : Enters room₁ (load (places_of room₁) (store_in room₁ n) (records left)) entered room₂) where
-      comes : Enters (laid fresh_store room) (load (places_of room) fresh_store (records left)) entered room₂
+    module _ {entered : Entered} {room₂ : List ℕ} (c : EntersRoom room₁ (load (places_of room₁) (store_in room₁ n) (records left)) entered room₂) where
+      comes : EntersRoom (laid fresh_store room) (load (places_of room) fresh_store (records left)) entered room₂
       comes = rw (loads_fresh, r) at c
 
       -- The left card is entered: its store is lent to the right card.
@@ -132,7 +132,7 @@ module _ (left right room : List ℕ) (lefts : Bytes left) (rights : Bytes right
         left_entered = go left_law comes
           where
             go : {l : Loading} → LoadLaw (places_of room) (records left) fresh_store [] (records left) l
-                → Enters (laid fresh_store room) l entered room₂ → LeftEntered room l x taken room₂
+                → EntersRoom (laid fresh_store room) l entered room₂ → LeftEntered room l x taken room₂
             go (all_loaded {places' = places} {store' = store} a) t =
                 let told = t.answers in
                 record {
@@ -150,18 +150,18 @@ module _ (left right room : List ℕ) (lefts : Bytes left) (rights : Bytes right
         lent_left = left_stands left_entered bytes legal
 
         pub both_told : {answer : Opened} {room₃ : List ℕ}
-            → Opens room₂ (right_opened x (load (places_of room₂) (store_in room₂ taken) (records right))) answer room₃
-            → Opens room (open_both (places_of room) (records left) (records right)) answer room₃
+            → OpensRoom room₂ (right_opened x (load (places_of room₂) (store_in room₂ taken) (records right))) answer room₃
+            → OpensRoom room (open_both (places_of room) (records left) (records right)) answer room₃
         unfolding open_both
         both_told o = told_of_room left_entered right rights can.right_good o
 
       -- The room is full.
-      pub full_told : {taken : ℕ} → entered ≡ Full taken → Opens room (open_both (places_of room) (records left) (records right)) (NotOpened taken) room₂
+      pub full_told : {taken : ℕ} → entered ≡ NotEntered taken → OpensRoom room (open_both (places_of room) (records left) (records right)) (NotOpened taken) room₂
       unfolding open_both
       full_told {taken} e = go left_law comes
         where
           go : {l : Loading} → LoadLaw (places_of room) (records left) fresh_store [] (records left) l
-              → Enters (laid fresh_store room) l entered room₂ → Opens room (left_opened (places_of room) (records right) l) (NotOpened taken) room₂
+              → EntersRoom (laid fresh_store room) l entered room₂ → OpensRoom room (left_opened (places_of room) (records right) l) (NotOpened taken) room₂
           go (all_loaded a) t = absurd (not_both t.answers e)
           go (was_full {store' = store} f) t =
               let told = t.answers in

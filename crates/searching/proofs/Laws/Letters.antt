@@ -14,11 +14,11 @@ use Rattle.records.specs.declared.record.Record.{Record}
 use Rattle.store.specs.Room.{store_in, places_of}
 use Rattle.store.specs.Good.{GoodStore}
 use Rattle.store.proofs.Laws.GoodRoom.{length_store_in}
-use Rattle.derivative.specs.declared.both.Both.{Both}
-use Rattle.derivative.specs.declared.both.Both.TheVariants.{At as BothAt, Stopped as OneStopped}
+use Rattle.derivative.proofs.Laws.Told.{Both}
+use Rattle.derivative.proofs.Laws.Told.{BothAt, OneStopped}
 use Rattle.derivative.specs.Derivative.{Deriving, derived, stopped as unfinished, derive}
 use Rattle.derivative.specs.Both.{DerivingBoth, both_derived, one_stopped, left_derived, right_derived, derive_both}
-use Rattle.derivative.specs.Told.{BothCome}
+use Rattle.derivative.proofs.Laws.Told.{BothComeRoom}
 use Rattle.derivative.proofs.Laws.Both.{StandsBoth, both_stand, one_stands}
 use Rattle.pairs.specs.declared.pair.Pair.{Pair}
 use Rattle.pairs.specs.Pair.{pair_record, pair_at}
@@ -119,7 +119,7 @@ module _ {work : List ℕ} {places : ℕ} {pairs : List ℕ} {placed n letter : 
       let y = i.1 in
       (omega (arith, length_store_in work places), omega (arith, length_store_in work places))
 
-  module _ {answer : Both} {work₁ : List ℕ} (b : BothCome work (derive_both (places_of work) letter p.left p.right (store_in work places) budget) answer work₁) where
+  module _ {answer : Both} {work₁ : List ℕ} (b : BothComeRoom work (derive_both (places_of work) letter p.left p.right (store_in work places) budget) answer work₁) where
     is_after : lettered ≡ after_both few n letter table (derive_both cap letter p.left p.right store budget)
     is_after = by_both cap few n letter table store budget ∙ ap (λ (q : Pair). after_both few n letter table (derive_both cap letter q.left q.right store budget)) here
 
