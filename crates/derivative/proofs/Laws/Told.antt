@@ -106,8 +106,8 @@ both_come_room {w} {d} {answer} {w'} c =
 
 -- The other way: the store of a derivation that is told stands in the room that it left.
 
-store_left : {w : Work} {store : List Record} {w' : Work} → w'.places ≡ length store → w'.room.now ≡ laid store w.room.now → store_of w' ≡ store
-store_left {w} {store} p r = ap₂ store_in r p ∙ store_of_laid store w.room.now
+store_left : (w : Work) {store : List Record} (w' : Work) → w'.places ≡ length store → w'.room.now ≡ laid store w.room.now → store_of w' ≡ store
+store_left w {store} w' p r = ap₂ store_in r p ∙ store_of_laid store w.room.now
 
 same_derived : {b p n b' p' n' : ℕ} → At b p n ≡ At b' p' n' → (b ≡ b') × (p ≡ p') × (n ≡ n')
 same_derived e = (cc, cc, cc)
@@ -119,11 +119,11 @@ pub room_comes : {w : Work} (d : Deriving) (answer : Result ℕ Refusal) {w' : W
     → ComesRoom w.room.now d (derived_of answer w'.places w'.budget) w'.room.now → Comes w d answer w'
 room_comes {w} (derived place store budget) (Ok p) {w'} c =
     let e = same_derived c.answers in
-    let s : store_of w' ≡ store = store_left {w} e.2 c.leaves in
+    let s : store_of w' ≡ store = store_left w w' e.2 c.leaves in
     record { is = rw (s, e.0, e.1) refl; leaves = c.leaves ∙ ap (λ (s : List Record). laid s w.room.now) (sym s) }
 room_comes {w} (stopped number store budget) (Err refusal) {w'} c =
     let e = same_stopped c.answers in
-    let s : store_of w' ≡ store = store_left {w} e.1 c.leaves in
+    let s : store_of w' ≡ store = store_left w w' e.1 c.leaves in
     record { is = rw (s, e.0, e.2) refl; leaves = c.leaves ∙ ap (λ (s : List Record). laid s w.room.now) (sym s) }
 room_comes (derived place store budget) (Err refusal) c = let e = c.answers in let z : ◌≡◌ {A = ℕ} 0 1 = cc in absurd (omega arith)
 room_comes (stopped number store budget) (Ok p) c = let e = c.answers in let z : ◌≡◌ {A = ℕ} 0 1 = cc in absurd (omega arith)
@@ -138,11 +138,11 @@ pub room_both_come : {w : Work} (d : DerivingBoth) (answer : Result (ℕ × ℕ)
     → BothComeRoom w.room.now d (both_of answer w'.places w'.budget) w'.room.now → BothCome w d answer w'
 room_both_come {w} (both_derived x y store budget) (Ok p) {w'} c =
     let e = same_both c.answers in
-    let s : store_of w' ≡ store = store_left {w} e.2.1.0 c.leaves in
+    let s : store_of w' ≡ store = store_left w w' e.2.1.0 c.leaves in
     record { is = rw (s, e.0, e.1, e.2.2) refl; leaves = c.leaves ∙ ap (λ (s : List Record). laid s w.room.now) (sym s) }
 room_both_come {w} (one_stopped number store budget) (Err refusal) {w'} c =
     let e = same_one c.answers in
-    let s : store_of w' ≡ store = store_left {w} e.1 c.leaves in
+    let s : store_of w' ≡ store = store_left w w' e.1 c.leaves in
     record { is = rw (s, e.0, e.2) refl; leaves = c.leaves ∙ ap (λ (s : List Record). laid s w.room.now) (sym s) }
 room_both_come (both_derived x y store budget) (Err refusal) c = let e = c.answers in let z : ◌≡◌ {A = ℕ} 0 1 = cc in absurd (omega arith)
 room_both_come (one_stopped number store budget) (Ok p) c = let e = c.answers in let z : ◌≡◌ {A = ℕ} 0 1 = cc in absurd (omega arith)
