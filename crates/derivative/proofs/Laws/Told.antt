@@ -138,8 +138,8 @@ pub room_both_come : {w : Work} (d : DerivingBoth) (answer : Result (ℕ × ℕ)
     → BothComeRoom w.room.now d (both_of answer w'.places w'.budget) w'.room.now → BothCome w d answer w'
 room_both_come {w} (both_derived x y store budget) (Ok p) {w'} c =
     let e = same_both c.answers in
-    let s : store_of w' ≡ store = store_left w w' e.2.1.0 c.leaves in
-    record { is = rw (s, e.0, e.1, e.2.2) refl; leaves = c.leaves ∙ ap (λ (s : List Record). laid s w.room.now) (sym s) }
+    let s : store_of w' ≡ store = store_left w w' e.2 c.leaves in
+    record { is = rw (s, e.0, e.1, e.3) refl; leaves = c.leaves ∙ ap (λ (s : List Record). laid s w.room.now) (sym s) }
 room_both_come {w} (one_stopped number store budget) (Err refusal) {w'} c =
     let e = same_one c.answers in
     let s : store_of w' ≡ store = store_left w w' e.1 c.leaves in
