@@ -1,4 +1,6 @@
 // Using or writing a record: its mark is made of its children's marks; it is used where it is found, and else written at the first free place.
+// These stay on the room and its places, and not on `Work`: the store need not be good after any record is used or written, so what is
+// promised of any record could not be promised of `Work`.
 ghost use Rattle.std.specs.Prelude.{◌≡◌, ◌<◌};
 ghost use Rattle.records.specs.Record.{child};
 ghost use Rattle.cards.specs.Mark.{marked};

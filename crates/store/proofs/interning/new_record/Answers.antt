@@ -25,7 +25,7 @@ pub returns : goal.returns
 returns c =
     let a = c.args in
     as-record (store_in a.room.now a.places) a.kind a.letter a.left a.right
-    c.named.ensures
+    c.from.ensures
     c.marked_at.ensures
     c.marked_at-2.ensures
     c.has_empty.ensures
