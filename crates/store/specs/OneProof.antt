@@ -12,7 +12,7 @@ use Rattle.cards.specs.Standing.{LetterField, ChildField}
 use Rattle.store.specs.Making.{is_kind}
 use Rattle.store.specs.Good.{Set, none, member, GoodStore}
 
-bytes_prop : (w : List ℕ) → IsProp (Bytes w)
+pub bytes_prop : (w : List ℕ) → IsProp (Bytes w)
 bytes_prop [] no_letter no_letter = refl
 bytes_prop (c ∷ w) (one_letter p o) (one_letter q r) = ap₂ one_letter (le_prop p q) (bytes_prop w o r)
 

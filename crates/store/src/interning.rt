@@ -62,6 +62,7 @@ pub fn new_record(
 }
 
 // What the mark of the record at a place says.
+#[tactic(auto, using(crate::proofs::Laws::Room::child_in_room))]
 pub fn marked_at(room: &[u8], places: usize, place: usize) -> bool
     requires good_store { GoodStore room.now places }
     requires place_lt_places { place < places }

@@ -53,6 +53,7 @@ pub fn set_of_both(
 }
 
 // The set at a place.
+#[tactic(auto, using(crate::proofs::Laws::Room::child_in_room))]
 fn read_side(room: &[u8], places: usize, kind: u8, place: usize) -> Side
     requires good_store { GoodStore room.now places }
     requires place_lt_places { place < places }
