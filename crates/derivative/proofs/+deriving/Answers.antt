@@ -12,32 +12,32 @@ use Rattle.store.specs.Work.{store_of, space_of}
 use Rattle.store.proofs.Laws.Told.{makes_told, full_by}
 use Rattle.derivative.specs.Parts.{product_of}
 use Rattle.derivative.proofs.Laws.Told.{comes_room, room_comes, derived_of_made}
-use Rattle.derivative.proofs.Laws.Rooms.{first_next, right_made, parts_derived, product_next, product_full, product_placed, product_good, choice_good, right_unasked, unpaid, parts_lower, visited_leaf, visited_parts, derived_inside, derived_grows}
+use Rattle.derivative.proofs.Laws.Rooms.{right_made, parts_derived, product_next, product_full, product_placed, product_good, choice_good, right_unasked, unpaid, visited_leaf, visited_parts, derived_inside, derived_grows}
 use Rattle.derivative.proofs.+deriving.Goals as goal
 
 pub derive-returns-then-work-fee-clause-comes : goal.derive-returns-then-work-fee-clause-comes
 derive-returns-then-work-fee-clause-comes t c =
     let a = c.args in
     λ depth l.
-        room_comes _ (Err NoBudgetLeft)
-        (unpaid a.letter a.work.now.good a.place c.requires a.work.now.budget c.price-fee.ensures c.if-work-fee.true depth l)
+    room_comes _ (Err NoBudgetLeft)
+    (unpaid a.letter a.work.now.good a.place c.requires a.work.now.budget c.price-fee.ensures c.if-work-fee.true depth l)
 
 pub derive-returns-in-Leaf-clause-comes : goal.derive-returns-in-Leaf-clause-comes
 derive-returns-in-Leaf-clause-comes t c =
     let a = c.args in
     λ depth l.
-        room_comes _ (Ok c.in-Leaf.next)
-        (visited_leaf a.letter a.work.now.good a.place c.requires a.work.now.budget
-        c.price-fee.ensures c.if-work-fee.false c.visit.ensures c.in-Leaf.is depth l)
+    room_comes _ (Ok c.in-Leaf.next)
+    (visited_leaf a.letter a.work.now.good a.place c.requires a.work.now.budget
+    c.price-fee.ensures c.if-work-fee.false c.visit.ensures c.in-Leaf.is depth l)
 
 pub derive-returns-in-Parts-clause-comes : goal.derive-returns-in-Parts-clause-comes
 derive-returns-in-Parts-clause-comes t c =
     let a = c.args in
     λ depth l.
-        room_comes _ c.derive_parts.result
-        (visited_parts a.letter a.work.now.good a.place c.requires a.work.now.budget
-        c.price-fee.ensures c.if-work-fee.false c.visit.ensures c.in-Parts.is
-        (λ d m n. comes_room (c.derive_parts.ensures.comes d m n)) depth l)
+    room_comes _ c.derive_parts.result
+    (visited_parts a.letter a.work.now.good a.place c.requires a.work.now.budget
+    c.price-fee.ensures c.if-work-fee.false c.visit.ensures c.in-Parts.is
+    (λ d m n. comes_room (c.derive_parts.ensures.comes d m n)) depth l)
 
 pub derive-returns-in-Leaf-clause-inside : goal.derive-returns-in-Leaf-clause-inside
 derive-returns-in-Leaf-clause-inside t c =
@@ -55,10 +55,10 @@ pub derive_parts-returns-clause-comes : goal.derive_parts-returns-clause-comes
 derive_parts-returns-clause-comes t c =
     let a = c.args in
     λ depth l m.
-        room_comes _ c.with_left.result
-        (parts_derived a.letter c.ranges.letter.fits a.work.now.good a.left a.work.now.budget c.requires.0
-        (λ d k. comes_room (c.in_ok-x.ensures.comes d k)) refl
-        a.right c.requires.1 a.product a.both (λ d k. comes_room (c.with_left.ensures.comes d k)) depth l m)
+    room_comes _ c.with_left.result
+    (parts_derived a.letter c.ranges.letter.fits a.work.now.good a.left a.work.now.budget c.requires.0
+    (λ d k. comes_room (c.in_ok-x.ensures.comes d k)) refl
+    a.right c.requires.1 a.product a.both (λ d k. comes_room (c.with_left.ensures.comes d k)) depth l m)
 
 pub with_left-invariant_of-work : goal.with_left-invariant_of-work
 with_left-invariant_of-work t c = record { good = product_good c.args.work.now.good c.requires c.args.product c.product_of.ensures }
@@ -70,17 +70,17 @@ with_left-returns-in_err-y-clause-comes t c =
     let made = c.in_err-y.ensures in
     let making = product_of (space_of a.work.now) (store_of a.work.now) a.x a.right a.product in
     λ depth l.
-        rw (told.1, told.2, full_by making made.answers)
-        (room_comes _ (Err NoFreePlace)
-        (product_full a.letter c.ranges.letter.fits a.work.now.good a.x a.right a.work.now.budget c.requires a.product a.both
-        (makes_told made, made.leaves) refl depth l))
+    rw (told.1, told.2, full_by making made.answers)
+    (room_comes _ (Err NoFreePlace)
+    (product_full a.letter c.ranges.letter.fits a.work.now.good a.x a.right a.work.now.budget c.requires a.product a.both
+    (makes_told made, made.leaves) refl depth l))
 
 pub with_left-with_right-requires : goal.with_left-with_right-requires
 with_left-with_right-requires t c =
     let a = c.args in
     let made = c.in_ok-y.ensures in
     let n = product_next a.letter c.ranges.letter.fits a.work.now.good a.x a.right a.work.now.budget c.requires a.product a.both
-        (makes_told made, made.leaves) refl in
+    (makes_told made, made.leaves) refl in
     (omega arith, (n.inside, omega (arith, n.more, c.requires.1)))
 
 pub with_left-returns-clause-comes : goal.with_left-returns-clause-comes
@@ -88,10 +88,10 @@ with_left-returns-clause-comes t c =
     let a = c.args in
     let made = c.in_ok-y.ensures in
     λ depth l.
-        room_comes _ c.with_right.result
-        (product_placed a.letter c.ranges.letter.fits a.work.now.good a.x a.right a.work.now.budget c.requires a.product a.both
-        (makes_told made, made.leaves) refl
-        (λ d k. comes_room (c.with_right.ensures.comes d k)) depth l)
+    room_comes _ c.with_right.result
+    (product_placed a.letter c.ranges.letter.fits a.work.now.good a.x a.right a.work.now.budget c.requires a.product a.both
+    (makes_told made, made.leaves) refl
+    (λ d k. comes_room (c.with_right.ensures.comes d k)) depth l)
 
 pub with_right-returns-then-not-both-clause-comes : goal.with_right-returns-then-not-both-clause-comes
 with_right-returns-then-not-both-clause-comes t c =
@@ -100,9 +100,8 @@ with_right-returns-then-not-both-clause-comes t c =
 
 pub with_right-invariant_of-work : goal.with_right-invariant_of-work
 with_right-invariant_of-work t c =
-    let a = c.args in
-    let n = first_next a.letter c.ranges.letter.fits a.work.now.good a.right a.work.now.budget c.requires.1 (λ d l. comes_room (c.in_ok-y.ensures.comes d l)) refl in
-    record { good = choice_good n.good (omega (arith, n.more, c.requires.0), n.inside) c.make.ensures }
+    let i = c.in_ok-y.ensures in
+    record { good = choice_good c.derive.new.work.good (omega (arith, i.grows, c.requires.0), i.inside) c.make.ensures }
 
 pub with_right-returns-clause-comes : goal.with_right-returns-clause-comes
 with_right-returns-clause-comes t c =
@@ -111,7 +110,7 @@ with_right-returns-clause-comes t c =
     let made = c.make.ensures in
     let making = make (space_of w) (store_of w) choice_kind 0 a.x c.in_ok-y.y in
     λ depth l.
-        room_comes _ c.make.result
-        (right_made a.letter c.ranges.letter.fits a.work.now.good a.right a.work.now.budget c.requires.1
-        (λ d k. comes_room (c.in_ok-y.ensures.comes d k)) refl
-        a.x c.requires.0 (makes_told made, made.leaves) (derived_of_made making made.answers c.make.new.places w.budget) c.if-not-both.false depth l)
+    room_comes _ c.make.result
+    (right_made a.letter c.ranges.letter.fits a.work.now.good a.right a.work.now.budget c.requires.1
+    (λ d k. comes_room (c.in_ok-y.ensures.comes d k)) refl
+    a.x c.requires.0 (makes_told made, made.leaves) (derived_of_made making made.answers c.make.new.places w.budget) c.if-not-both.false depth l)

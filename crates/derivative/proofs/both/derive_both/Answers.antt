@@ -1,5 +1,4 @@
 -- `derive_both` derives the left place, and then the right one in the store that stands in the room by then, which is good again.
-use native.Mathlib.Omega.{arith}
 use mathlib.Core.Path.{refl}
 use Rattle.std.specs.declared.result.Result.TheVariants.{Ok, Err}
 use Rattle.std.proofs.lemmas.Result.{err_from_is_err_and}
