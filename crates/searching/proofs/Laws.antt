@@ -1,4 +1,5 @@
 -- What is proved of the definitions: nothing here has to be believed, each file is checked.
+pub mod Told
 pub mod Words
 pub mod StoreMachine
 pub mod Unfolds

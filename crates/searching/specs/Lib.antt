@@ -7,4 +7,6 @@ pub mod Along
 pub mod FirstWord
 pub mod Cost
 pub mod Laws
+pub mod Table
+pub mod OneProof
 pub mod Told

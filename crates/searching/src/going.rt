@@ -1,17 +1,24 @@
-// What the search, or a part of it, comes to: it goes on, or it is at an end.
+// How a search ends before every placed pair has been taken.
+ghost use Rattle.std.specs.Prelude.{◌≡◌};
+ghost use Rattle.searching.specs.declared.going.End.TheVariants.{Refused};
 
-// How a search ends, with the places taken, the pairs placed and the budget left: same; different, at a pair reached from the pair of this
-// number by this letter, and whether the left side has the word; or stopped by a number.
+use refusals::refusal::Refusal;
+
+// Different: at a pair that is reached from the pair of this number by this letter, and whether the left side has the word. Or refused.
 #[derive(Clone, Copy)]
 pub enum End {
-    Same(usize, usize, u32),
-    Different(usize, u8, bool, usize, usize, u32),
-    Stopped(u8, usize, usize, u32),
+    Different {
+        origin: usize,
+        letter: u8,
+        left_has: bool,
+    },
+    Refused(Refusal),
 }
 
-// Goes on, with these three; an end stays an end.
-#[derive(Clone, Copy)]
-pub enum Going {
-    On(usize, usize, u32),
-    Ends(End),
+impl From<Refusal> for End {
+    ghost from_gives = { λ refusal end. end ≡ Refused refusal };
+
+    fn from(refusal: Refusal) -> End {
+        End::Refused(refusal)
+    }
 }

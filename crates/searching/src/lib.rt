@@ -4,4 +4,5 @@
 
 pub mod going;
 pub mod looking;
+pub mod table;
 pub mod taking;

@@ -1,47 +1,50 @@
 // Looking at a pair that is reached: marks first, then the table, then room for it.
 ghost use Rattle.std.specs.Prelude.{◌≡◌, ◌-◌, ◌<◌, ◌≤◌};
-ghost use Rattle.store.specs.Room.{store_in};
-ghost use Rattle.store.specs.Good.{GoodStore};
-ghost use Rattle.pairs.specs.Room.{table_in, pairs_of};
+ghost use Rattle.store.specs.Work.{store_of};
+ghost use Rattle.pairs.specs.Room.{pairs_of};
 ghost use Rattle.searching.specs.Search.{look};
-ghost use Rattle.searching.specs.Told.{GoodPairs, found_word, Goes};
+ghost use Rattle.searching.specs.Laws.Keeps.{Tabled};
+ghost use Rattle.searching.specs.Told.{table_of, found_word, Goes};
 
-use crate::going::{End, Going};
+use crate::going::End;
+use crate::table::Table;
 use pairs::pair::{PAIR, Pair};
 use pairs::table::{place, stands_in};
-use refusals::numbers::NO_PLACE_FOR_PAIR;
+use refusals::refusal::Refusal;
 use store::interning::marked_at;
+use store::work::Work;
 
-// The pair of the places x and y, reached from the pair numbered `origin` by a letter, with so much budget left.
+// The pair of the places x and y, reached from the pair numbered `origin` by a letter.
 pub fn look(
-    work: &[u8],
-    places: usize,
-    pairs: &mut [u8],
-    placed: usize,
+    work: &Work<'_>,
+    table: &mut Table<'_>,
     x: usize,
     y: usize,
     origin: usize,
     letter: u8,
-    left: u32,
-) -> Going
-    requires good_store { GoodStore work.now places }
-    requires x_lt_places { (x < places) × (y < places) }
-    requires good_pairs { GoodPairs pairs.old placed work.now places }
-    requires origin_bound { origin ≤ placed - 1 }
-    ensures { Goes work.now pairs.old (look (pairs_of pairs.old) x y origin letter (found_word (table_in pairs.old placed) origin letter) (store_in work.now places) (table_in pairs.old placed) left) result work.now pairs.new }
+) -> Result<(), End>
+    requires stand { (x < work.now.places) × (y < work.now.places) }
+    requires tabled { Tabled (pairs_of table.old.room.now) (store_of work.now) (table_of table.old) }
+    requires origin_placed { origin ≤ table.old.pairs - 1 }
+    ensures same_room { table.new.room.ghost_name ≡ table.old.room.ghost_name }
+    ensures goes { Goes work.now table.old (look (pairs_of table.old.room.now) x y origin letter (found_word (table_of table.old) origin letter) (store_of work.now) (table_of table.old) work.now.budget) result work.now table.new }
 {
-    let left_has = marked_at(work, places, x);
-    let right_has = marked_at(work, places, y);
+    let left_has = marked_at(work.room, work.places, x);
+    let right_has = marked_at(work.room, work.places, y);
     if left_has != right_has {
-        return Going::Ends(End::Different(origin, letter, left_has, places, placed, left));
+        return Err(End::Different {
+            origin,
+            letter,
+            left_has,
+        });
     }
-    if stands_in(pairs, placed, x as u16, y as u16) {
-        return Going::On(places, placed, left);
+    if stands_in(table.room, table.pairs, x as u16, y as u16) {
+        return Ok(());
     }
-    if placed < pairs.len() / PAIR {
+    if table.pairs < table.room.len() / PAIR {
         place(
-            pairs,
-            placed,
+            table.room,
+            table.pairs,
             Pair {
                 left: x as u16,
                 right: y as u16,
@@ -49,7 +52,8 @@ pub fn look(
                 letter,
             },
         );
-        return Going::On(places, placed + 1, left);
+        table.pairs += 1;
+        return Ok(());
     }
-    Going::Ends(End::Stopped(NO_PLACE_FOR_PAIR, places, placed, left))
+    Err(End::Refused(Refusal::NoPlaceForPair))
 }

@@ -1,136 +1,85 @@
 // The fixed search: pairs in table order, for each the letters ascending, for each letter the left derived, then the right.
 ghost use Rattle.std.specs.Prelude.{◌≡◌, [], ◌<◌};
-ghost use Rattle.store.specs.Room.{store_in, places_of};
-ghost use Rattle.store.specs.Good.{GoodStore};
-ghost use Rattle.pairs.specs.Room.{table_in, pairs_of};
+ghost use Rattle.store.specs.Work.{store_of, space_of};
+ghost use Rattle.pairs.specs.Room.{pairs_of};
 ghost use Rattle.searching.specs.Search.{by_letter, by_letters, take_pairs, search};
-ghost use Rattle.searching.specs.Told.{LegalPairs, GoodPairs, Goes, Ends};
+ghost use Rattle.searching.specs.Laws.Keeps.{Tabled};
+ghost use Rattle.searching.specs.Told.{table_of, Goes, Ends};
 
-use crate::going::{End, Going};
+use crate::going::End;
 use crate::looking::look;
-use derivative::both::{Both, derive_both};
+use crate::table::Table;
+use derivative::both::derive_both;
 use pairs::pair::read;
+use store::work::Work;
 
-// The search from the opening pair.
+// The search from the opening pair, over an empty table: the table is closed, or the search is at an end before.
 pub fn search(
-    work: &mut [u8],
-    places: usize,
-    pairs: &mut [u8],
+    work: &mut Work<'_>,
+    table: &mut Table<'_>,
     letters: &[u8],
     x: usize,
     y: usize,
-    budget: u32,
-) -> End
-    requires good_store { GoodStore work.old places }
-    requires x_lt_places { (x < places) × (y < places) }
-    requires legal_pairs { LegalPairs pairs.old }
-    ensures { Ends work.old pairs.old (search (places_of work.old) (pairs_of pairs.old) letters.now x y (store_in work.old places) budget) result work.new pairs.new }
+) -> Result<(), End>
+    requires stand { (x < work.old.places) × (y < work.old.places) }
+    requires empty { table.old.pairs ≡ 0 }
+    ensures same_room { work.new.room.ghost_name ≡ work.old.room.ghost_name }
+    ensures same_pair_room { table.new.room.ghost_name ≡ table.old.room.ghost_name }
+    ensures ends { Ends work.old table.old (search (space_of work.old) (pairs_of table.old.room.now) letters.now x y (store_of work.old) work.old.budget) result work.new table.new }
 {
-    let opening = look(work, places, pairs, 0, x, y, 0, 0, budget);
-    match opening {
-        Going::On(taken, placed, left) => take_pairs(work, taken, pairs, placed, letters, left),
-        Going::Ends(end) => end,
-    }
+    look(work, table, x, y, 0, 0)?;
+    take_pairs(work, table, letters)
 }
 
 // The pairs in table order, until every placed pair has been taken.
-fn take_pairs(
-    work: &mut [u8],
-    places: usize,
-    pairs: &mut [u8],
-    placed: usize,
-    letters: &[u8],
-    budget: u32,
-) -> End
-    requires good_store { GoodStore work.old places }
-    requires good_pairs { GoodPairs pairs.old placed work.old places }
-    ensures { Ends work.old pairs.old (take_pairs (pairs_of pairs.old) (places_of work.old) (pairs_of pairs.old) letters.now 0 (store_in work.old places) (table_in pairs.old placed) budget) result work.new pairs.new }
+fn take_pairs(work: &mut Work<'_>, table: &mut Table<'_>, letters: &[u8]) -> Result<(), End>
+    requires { Tabled (pairs_of table.old.room.now) (store_of work.old) (table_of table.old) }
+    ensures same_room { work.new.room.ghost_name ≡ work.old.room.ghost_name }
+    ensures same_pair_room { table.new.room.ghost_name ≡ table.old.room.ghost_name }
+    ensures ends { Ends work.old table.old (take_pairs (pairs_of table.old.room.now) (space_of work.old) (pairs_of table.old.room.now) letters.now 0 (store_of work.old) (table_of table.old) work.old.budget) result work.new table.new }
 {
-    let mut taken = places;
-    let mut standing = placed;
-    let mut left = budget;
     let mut n = 0;
-    while n < standing {
-        let went = by_letters(work, taken, pairs, standing, n, letters, left);
-        match went {
-            Going::On(now_taken, now_standing, now_left) => {
-                taken = now_taken;
-                standing = now_standing;
-                left = now_left;
-            }
-            Going::Ends(end) => {
-                return end;
-            }
-        }
+    // counted by hand: the table grows while its pairs are taken
+    while n < table.pairs {
+        by_letters(work, table, n, letters)?;
         n += 1;
     }
-    End::Same(taken, standing, left)
+    Ok(())
 }
 
 // The pair numbered n by each letter in turn.
 fn by_letters(
-    work: &mut [u8],
-    places: usize,
-    pairs: &mut [u8],
-    placed: usize,
+    work: &mut Work<'_>,
+    table: &mut Table<'_>,
     n: usize,
     letters: &[u8],
-    budget: u32,
-) -> Going
-    requires good_store { GoodStore work.old places }
-    requires good_pairs { GoodPairs pairs.old placed work.old places }
-    requires n_lt_placed { n < placed }
-    ensures { Goes work.old pairs.old (by_letters (places_of work.old) (pairs_of pairs.old) n letters.now (store_in work.old places) (table_in pairs.old placed) budget) result work.new pairs.new }
+) -> Result<(), End>
+    requires tabled { Tabled (pairs_of table.old.room.now) (store_of work.old) (table_of table.old) }
+    requires placed { n < table.old.pairs }
+    ensures same_room { work.new.room.ghost_name ≡ work.old.room.ghost_name }
+    ensures same_pair_room { table.new.room.ghost_name ≡ table.old.room.ghost_name }
+    ensures goes { Goes work.old table.old (by_letters (space_of work.old) (pairs_of table.old.room.now) n letters.now (store_of work.old) (table_of table.old) work.old.budget) result work.new table.new }
 {
-    let mut taken = places;
-    let mut standing = placed;
-    let mut left = budget;
-    let mut at = 0;
-    while at < letters.len() {
-        let went = by_letter(work, taken, pairs, standing, n, letters[at], left);
-        match went {
-            Going::On(now_taken, now_standing, now_left) => {
-                taken = now_taken;
-                standing = now_standing;
-                left = now_left;
-            }
-            Going::Ends(end) => {
-                return Going::Ends(end);
-            }
-        }
-        at += 1;
+    for letter in letters {
+        by_letter(work, table, n, *letter)?;
     }
-    Going::On(taken, standing, left)
+    Ok(())
 }
 
 // The pair numbered n by one letter.
 fn by_letter(
-    work: &mut [u8],
-    places: usize,
-    pairs: &mut [u8],
-    placed: usize,
+    work: &mut Work<'_>,
+    table: &mut Table<'_>,
     n: usize,
     letter: u8,
-    budget: u32,
-) -> Going
-    requires good_store { GoodStore work.old places }
-    requires good_pairs { GoodPairs pairs.old placed work.old places }
-    requires n_lt_placed { n < placed }
-    ensures { Goes work.old pairs.old (by_letter (places_of work.old) (pairs_of pairs.old) n letter (store_in work.old places) (table_in pairs.old placed) budget) result work.new pairs.new }
+) -> Result<(), End>
+    requires tabled { Tabled (pairs_of table.old.room.now) (store_of work.old) (table_of table.old) }
+    requires placed { n < table.old.pairs }
+    ensures same_room { work.new.room.ghost_name ≡ work.old.room.ghost_name }
+    ensures same_pair_room { table.new.room.ghost_name ≡ table.old.room.ghost_name }
+    ensures goes { Goes work.old table.old (by_letter (space_of work.old) (pairs_of table.old.room.now) n letter (store_of work.old) (table_of table.old) work.old.budget) result work.new table.new }
 {
-    let p = read(pairs, n);
-    let both = derive_both(
-        work,
-        places,
-        p.left as usize,
-        p.right as usize,
-        letter,
-        budget,
-    );
-    match both {
-        Both::At(x, y, taken, left) => look(work, taken, pairs, placed, x, y, n, letter, left),
-        Both::Stopped(number, taken, left) => Going::Ends(End::Stopped(
-            number, taken, placed, left,
-        )),
-    }
+    let p = read(table.room, n);
+    let (x, y) = derive_both(work, p.left as usize, p.right as usize, letter)?;
+    look(work, table, x, y, n, letter)
 }

@@ -35,7 +35,8 @@ use Rattle.searching.specs.Search.{Search, same, different, stopped, search}
 use Rattle.answers.specs.Comparing.{Told}
 use Rattle.comparing.specs.Compare.{compare_standing, Outcome, of_word, of_search, search_opened, compare_by, compare_outcome}
 use Rattle.comparing.specs.Promise.{TrueVerdict, Leaves, Compares}
-use Rattle.searching.specs.Told.{LegalPairs, end_store}
+use Rattle.searching.proofs.Laws.Told.{end_store}
+use Rattle.searching.specs.Told.{LegalPairs}
 use Rattle.comparing.proofs.Laws.Compare.{compare_true}
 use Rattle.searching.proofs.Laws.Keeps.{KeepsSearch, keeps_same, keeps_different, keeps_stopped, search_keeps}
 use Rattle.comparing.proofs.Laws.Refusals.{Unrefused, unrefused}

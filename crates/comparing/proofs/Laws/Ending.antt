@@ -11,8 +11,8 @@ use Rattle.derivative.proofs.Laws.Rooms.{in_store}
 use Rattle.pairs.specs.declared.pair.Pair.{Pair}
 use Rattle.pairs.specs.Room.{table_in, pairs_of, laid_pairs}
 use Rattle.pairs.specs.Laws.Room.{table_of_laid, length_laid_pairs}
-use Rattle.searching.specs.declared.going.End.{End}
-use Rattle.searching.specs.declared.going.End.TheVariants.{Same, Different, Stopped}
+use Rattle.searching.proofs.Laws.Told.{End}
+use Rattle.searching.proofs.Laws.Told.{Same, Different, Stopped}
 use Rattle.comparing.specs.declared.reading_off.Word.{Word as CodeWord}
 use Rattle.comparing.specs.declared.reading_off.Word.TheVariants.{Written, Short}
 use Rattle.answers.specs.declared.Comparison.TheVariants.{Same as SameTold, Different as DifferentTold, Refused, WordRoomShort}
@@ -21,7 +21,8 @@ use Rattle.answers.specs.Comparing.{are_different, word_room_short}
 use Rattle.comparing.specs.Compare.{Outcome, of_word, of_search}
 use Rattle.comparing.specs.Promise.{Leaves}
 use Rattle.comparing.specs.Told.{Wrote, was_written, was_short}
-use Rattle.searching.specs.Told.{LegalPairs, OrderedPairs, found_word, TellsEnd, tells_same, tells_different, tells_stopped, end_store, end_table, Ends}
+use Rattle.searching.proofs.Laws.Told.{TellsEnd, tells_same, tells_different, tells_stopped, end_store, end_table, EndsRooms}
+use Rattle.searching.specs.Told.{LegalPairs, OrderedPairs, found_word}
 use Rattle.searching.specs.Laws.Words.{Ordered}
 use Rattle.searching.proofs.Laws.Keeps.{KeepsSearch, keeps_same, keeps_different, keeps_stopped, search_keeps}
 use Rattle.searching.proofs.Laws.Rooms.{listed_byte}
@@ -32,11 +33,11 @@ pub record Searched (work : List ℕ) (places : ℕ) (pairs letters : List ℕ) 
   pub inside : (x < places) × (y < places)
   pub legal : LegalPairs pairs
   pub bytes : Bytes letters
-  pub ends : Ends work pairs (search (places_of work) (pairs_of pairs) letters x y (store_in work places) budget) end work' pairs'
+  pub ends : EndsRooms work pairs (search (places_of work) (pairs_of pairs) letters x y (store_in work places) budget) end work' pairs'
 
 pub searched : {work : List ℕ} {places : ℕ} {pairs letters : List ℕ} {x y budget : ℕ} → GoodStore work places → (x < places) × (y < places) → LegalPairs pairs
     → ((i : ℕ) → get_or letters i 0 < 256)
-    → {end : End} {work' pairs' : List ℕ} → Ends work pairs (search (places_of work) (pairs_of pairs) letters x y (store_in work places) budget) end work' pairs'
+    → {end : End} {work' pairs' : List ℕ} → EndsRooms work pairs (search (places_of work) (pairs_of pairs) letters x y (store_in work places) budget) end work' pairs'
     → Searched work places pairs letters x y budget end work' pairs'
 searched {letters = letters} g i l b e = record { good = g; inside = i; legal = l; bytes = bytes_all letters b; ends = e }
 

@@ -25,13 +25,14 @@ use Rattle.pairs.specs.Pair.{pair_record, pair_at}
 use Rattle.pairs.specs.Room.{table_in, pairs_of}
 use Rattle.pairs.specs.Laws.Pair.{length_first_pairs, first_pair_at}
 use Rattle.pairs.specs.Laws.Room.{laid_pairs_same}
-use Rattle.searching.specs.declared.going.End.{End}
-use Rattle.searching.specs.declared.going.End.TheVariants.{Stopped}
-use Rattle.searching.specs.declared.going.Going.{Going as CodeGoing}
-use Rattle.searching.specs.declared.going.Going.TheVariants.{On, Ends as EndsCode}
+use Rattle.searching.proofs.Laws.Told.{End}
+use Rattle.searching.proofs.Laws.Told.{Stopped}
+use Rattle.searching.proofs.Laws.Told.{CodeGoing}
+use Rattle.searching.proofs.Laws.Told.{On, EndsCode}
 use Rattle.searching.specs.ReadOff.{word_of}
 use Rattle.searching.specs.Search.{stopped, Going, on, ends, look, by_letter, by_letters}
-use Rattle.searching.specs.Told.{GoodPairs, found_word, tells_stopped, TellsGoing, tells_on, tells_ends, Goes}
+use Rattle.searching.proofs.Laws.Told.{GoodPairs, tells_stopped, TellsGoing, tells_on, tells_ends, GoesRooms}
+use Rattle.searching.specs.Told.{found_word}
 use Rattle.searching.proofs.Laws.Keeps.{tabled_grows, KeepsGoing, look_keeps, by_letter_keeps}
 use Rattle.searching.proofs.Laws.Looking.{Looking}
 use Rattle.searching.proofs.Laws.Rooms.{Stood, stood_first, places_now, pairs_now, store_now, table_now, good_now, good_pairs_now, goes_from, went_on, went_out, stood_on}
@@ -158,8 +159,8 @@ module _ {work : List ℕ} {places : ℕ} {pairs : List ℕ} {placed n letter : 
           }
 
       pub then_looked : {answer' : CodeGoing} {work₂ pairs' : List ℕ}
-          → Goes work₁ pairs (look (pairs_of pairs) x y n letter (found_word (table_in pairs placed) n letter) (store_in work₁ taken) (table_in pairs placed) left) answer' work₂ pairs'
-          → Goes work pairs lettered answer' work₂ pairs'
+          → GoesRooms work₁ pairs (look (pairs_of pairs) x y n letter (found_word (table_in pairs placed) n letter) (store_in work₁ taken) (table_in pairs placed) left) answer' work₂ pairs'
+          → GoesRooms work pairs lettered answer' work₂ pairs'
       unfolding stood
       then_looked {answer'} {work₂} {pairs'} g =
           let s = both in
@@ -172,7 +173,7 @@ module _ {work : List ℕ} {places : ℕ} {pairs : List ℕ} {placed n letter : 
 
     -- One derivation was stopped.
     pub then_stopped : {number taken left : ℕ} → answer ≡ OneStopped number taken left
-        → Goes work pairs lettered (EndsCode (Stopped number taken placed left)) work₁ pairs
+        → GoesRooms work pairs lettered (EndsCode (Stopped number taken placed left)) work₁ pairs
     then_stopped {number} {taken} {left} f =
         let s = one_stands c.good letter c.byte p.left p.right can_derive budget b f in
         let is : lettered ≡ ends (stopped number s.store table left) = is_after ∙ ap (after_both few n letter table) s.is in
@@ -208,7 +209,7 @@ module _ {work₀ : List ℕ} {places : ℕ} {pairs₀ : List ℕ} {placed n : �
   whole = by_letters (places_of work₀) (pairs_of pairs₀) n letters (store_in work₀ places) (table_in pairs₀ placed) budget
 
   -- Where no letter is left, the search goes on.
-  pub letters_last : length letters ≤ at → Goes work₀ pairs₀ whole (On taken standing left) work pairs
+  pub letters_last : length letters ≤ at → GoesRooms work₀ pairs₀ whole (On taken standing left) work pairs
   unfolding by_letters
   letters_last l =
       let s = u.stood in
@@ -229,7 +230,7 @@ module _ {work₀ : List ℕ} {places : ℕ} {pairs₀ : List ℕ} {placed n : �
     letter_call = record { good = good_now u.stood; good_pairs = good_pairs_now u.stood; inside = still_inside; byte = byte }
 
     module _ {went : CodeGoing} {work₁ pairs₁ : List ℕ}
-        (g : Goes work pairs (by_letter (places_of work) (pairs_of pairs) n (get_or letters at 0) (store_in work taken) (table_in pairs standing) left) went work₁ pairs₁) where
+        (g : GoesRooms work pairs (by_letter (places_of work) (pairs_of pairs) n (get_or letters at 0) (store_in work taken) (table_in pairs standing) left) went work₁ pairs₁) where
       abbrev first : Going
       first = by_letter (places_of work₀) (pairs_of pairs₀) n (get_or letters at 0) u.stood.store u.stood.table left
 
@@ -248,7 +249,7 @@ module _ {work₀ : List ℕ} {places : ℕ} {pairs₀ : List ℕ} {placed n : �
           by_letter_keeps {room = places_of work₀} {pairs = pairs_of pairs₀} n (get_or letters at 0) left u.stood.kept.kept.ready u.stood.kept.tabled
           (let i = still_inside in omega (arith, u.stood.standing_is)) byte
 
-      from_first : Goes work₀ pairs₀ first went work₁ pairs₁
+      from_first : GoesRooms work₀ pairs₀ first went work₁ pairs₁
       from_first = goes_from u.stood keeps (rw (places_now u.stood, pairs_now u.stood, store_now u.stood, table_now u.stood) at g)
 
       pub letter_on : {taken' standing' left' : ℕ} → went ≡ On taken' standing' left'
@@ -263,7 +264,7 @@ module _ {work₀ : List ℕ} {places : ℕ} {pairs₀ : List ℕ} {placed n : �
             rest = rw add-one (goes_on ∙ ap onward w.is);
           }
 
-      pub letter_ended : {end : End} → went ≡ EndsCode end → Goes work₀ pairs₀ whole (EndsCode end) work₁ pairs₁
+      pub letter_ended : {end : End} → went ≡ EndsCode end → GoesRooms work₀ pairs₀ whole (EndsCode end) work₁ pairs₁
       letter_ended {end} e =
           let w = went_out from_first.tells e in
           let h = rw w.is at from_first in

@@ -14,12 +14,13 @@ use Rattle.pairs.specs.Pair.{stands_in}
 use Rattle.pairs.specs.Room.{table_in, pairs_of, laid_pairs}
 use Rattle.pairs.specs.Laws.Pair.{length_first_pairs}
 use Rattle.pairs.specs.Laws.Room.{laid_pairs_same}
-use Rattle.searching.specs.declared.going.End.TheVariants.{Different, Stopped}
-use Rattle.searching.specs.declared.going.Going.{Going as CodeGoing}
-use Rattle.searching.specs.declared.going.Going.TheVariants.{On, Ends as EndsCode}
+use Rattle.searching.proofs.Laws.Told.{Different, Stopped}
+use Rattle.searching.proofs.Laws.Told.{CodeGoing}
+use Rattle.searching.proofs.Laws.Told.{On, EndsCode}
 use Rattle.searching.specs.Search.{different, stopped, Going, on, ends, look}
 use Rattle.searching.proofs.Laws.Parts.{looked as looked-by}
-use Rattle.searching.specs.Told.{GoodPairs, found_word, tells_different, tells_stopped, TellsGoing, tells_on, tells_ends, going_store, going_table, Goes}
+use Rattle.searching.proofs.Laws.Told.{GoodPairs, tells_different, tells_stopped, TellsGoing, tells_on, tells_ends, going_store, going_table, GoesRooms}
+use Rattle.searching.specs.Told.{found_word}
 
 -- What the test for marks that differ says.
 not_true : (b : Bool) → not b ≡ true → b ≡ false
@@ -76,7 +77,7 @@ module _ {work : List ℕ} {places : ℕ} {pairs : List ℕ} {placed x y origin 
 
   unchanged : {g : Going} {answer : CodeGoing} → looked ≡ g → TellsGoing g answer
       → (store ≡ going_store g) → (table ≡ going_table g)
-      → Goes work pairs looked answer work pairs
+      → GoesRooms work pairs looked answer work pairs
   unchanged {g} e t a b =
       rw e
       (record {
@@ -87,7 +88,7 @@ module _ {work : List ℕ} {places : ℕ} {pairs : List ℕ} {placed x y origin 
 
   -- What the marks at the two places say.
   module _ {l r : Bool} (e : l ≡ marked (child store x)) (f : r ≡ marked (child store y)) where
-    pub look_differs : not (beq l r) ≡ true → Goes work pairs looked (EndsCode (Different origin letter l places placed left)) work pairs
+    pub look_differs : not (beq l r) ≡ true → GoesRooms work pairs looked (EndsCode (Different origin letter l places placed left)) work pairs
     look_differs n =
         let d : beq (marked (child store x)) (marked (child store y)) ≡ false = rw (e, f) at (not_true (beq l r) n) in
         let o : origin ≤ length table - 1 = let h = c.from in omega (arith, all_pairs) in
@@ -106,12 +107,12 @@ module _ {work : List ℕ} {places : ℕ} {pairs : List ℕ} {placed x y origin 
       on_told store' table' a b = subst (TellsGoing (on store' table' left)) (λ i. On (a i) (b i) left) tells_on
 
       module _ {stood : Bool} (g : stood ≡ stands_in table x y) where
-        pub look_stands : stood ≡ true → Goes work pairs looked (On places placed left) work pairs
+        pub look_stands : stood ≡ true → GoesRooms work pairs looked (On places placed left) work pairs
         look_stands h = unchanged (by_tests equal (sym g ∙ h) refl) (on_told store table all_places all_pairs) refl refl
 
         module _ (h : stood ≡ false) where
           pub look_placed : placed < pairs_of pairs → {pairs' : List ℕ} → pairs' ≡ laid_pairs (table ++ new ∷ []) pairs
-              → Goes work pairs looked (On places (placed + 1) left) work pairs'
+              → GoesRooms work pairs looked (On places (placed + 1) left) work pairs'
           look_placed l p =
               let free : ltb (length table) (pairs_of pairs) ≡ true = lt-ltb (length table) (pairs_of pairs) (omega (arith, all_pairs)) in
               let more : length (table ++ new ∷ []) ≡ placed + 1 = omega (arith, length-append table (new ∷ []), all_pairs) in
@@ -122,7 +123,7 @@ module _ {work : List ℕ} {places : ℕ} {pairs : List ℕ} {placed x y origin 
                 pair_room = p;
               })
 
-          pub look_full : pairs_of pairs ≤ placed → Goes work pairs looked (EndsCode (Stopped 9 places placed left)) work pairs
+          pub look_full : pairs_of pairs ≤ placed → GoesRooms work pairs looked (EndsCode (Stopped 9 places placed left)) work pairs
           look_full l =
               let full : ltb (length table) (pairs_of pairs) ≡ false = le-ltb (length table) (pairs_of pairs) (omega (arith, all_pairs)) in
               let told : EndsCode (Stopped 9 (length store) (length table) left) ≡ EndsCode (Stopped 9 places placed left)

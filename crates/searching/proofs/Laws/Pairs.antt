@@ -15,12 +15,13 @@ use Rattle.pairs.specs.declared.pair.Pair.{Pair}
 use Rattle.pairs.specs.Pair.{first_pairs}
 use Rattle.pairs.specs.Room.{table_in, pairs_of}
 use Rattle.pairs.specs.Laws.Room.{none_stand}
-use Rattle.searching.specs.declared.going.End.{End}
-use Rattle.searching.specs.declared.going.End.TheVariants.{Same}
-use Rattle.searching.specs.declared.going.Going.{Going as CodeGoing}
-use Rattle.searching.specs.declared.going.Going.TheVariants.{On, Ends as EndsCode}
+use Rattle.searching.proofs.Laws.Told.{End}
+use Rattle.searching.proofs.Laws.Told.{Same}
+use Rattle.searching.proofs.Laws.Told.{CodeGoing}
+use Rattle.searching.proofs.Laws.Told.{On, EndsCode}
 use Rattle.searching.specs.Search.{Search, same, Going, look, by_letters, take_pairs, search}
-use Rattle.searching.specs.Told.{LegalPairs, GoodPairs, found_word, TellsEnd, tells_same, Goes, Ends}
+use Rattle.searching.proofs.Laws.Told.{GoodPairs, TellsEnd, tells_same, GoesRooms, EndsRooms}
+use Rattle.searching.specs.Told.{LegalPairs, found_word}
 use Rattle.searching.proofs.Laws.Parts.{search_after, turned}
 use Rattle.searching.proofs.Laws.Keeps.{tabled_none, KeepsGoing, look_keeps, by_letters_keeps, take_pairs_keeps}
 use Rattle.searching.proofs.Laws.Rooms.{Stood, stood_first, listed_byte, places_now, pairs_now, store_now, table_now, good_now, good_pairs_now, goes_from, ends_from, WentOn, went_on, went_out, stood_on}
@@ -91,7 +92,7 @@ module _ {work₀ : List ℕ} {places : ℕ} {pairs₀ : List ℕ} {placed : ℕ
   pairs_left l = let f = u.stood.kept.tabled.fits in omega (arith, u.stood.standing_is)
 
   -- Where every placed pair has been taken the answer is "same".
-  pub pairs_last : standing ≤ n → Ends work₀ pairs₀ whole (Same taken standing left) work pairs
+  pub pairs_last : standing ≤ n → EndsRooms work₀ pairs₀ whole (Same taken standing left) work pairs
   pairs_last l =
       let s = u.stood in
       let is : whole ≡ same store table left = u.rest ∙ no_turn cap few letters (few - n) n store table left (omega (arith, s.standing_is)) in
@@ -107,7 +108,7 @@ module _ {work₀ : List ℕ} {places : ℕ} {pairs₀ : List ℕ} {placed : ℕ
     in_table = omega (arith, u.stood.standing_is)
 
     module _ {went : CodeGoing} {work₁ pairs₁ : List ℕ}
-        (g : Goes work pairs (by_letters (places_of work) (pairs_of pairs) n letters (store_in work taken) (table_in pairs standing) left) went work₁ pairs₁) where
+        (g : GoesRooms work pairs (by_letters (places_of work) (pairs_of pairs) n letters (store_in work taken) (table_in pairs standing) left) went work₁ pairs₁) where
       abbrev first : Going
       first = by_letters cap few n letters store table left
 
@@ -121,7 +122,7 @@ module _ {work₀ : List ℕ} {places : ℕ} {pairs₀ : List ℕ} {placed : ℕ
       keeps : KeepsGoing cap few store table left first
       keeps = by_letters_keeps {room = cap} {pairs = few} n letters left u.stood.kept.kept.ready u.stood.kept.tabled in_table (listed_byte bytes)
 
-      from_first : Goes work₀ pairs₀ first went work₁ pairs₁
+      from_first : GoesRooms work₀ pairs₀ first went work₁ pairs₁
       from_first = goes_from u.stood keeps (rw (places_now u.stood, pairs_now u.stood, store_now u.stood, table_now u.stood) at g)
 
       pub pair_taken : {taken' standing' left' : ℕ} → went ≡ On taken' standing' left'
@@ -131,7 +132,7 @@ module _ {work₀ : List ℕ} {places : ℕ} {pairs₀ : List ℕ} {placed : ℕ
           let w = went_on keeps from_first.tells e in
           record { stood = stood_on u.stood w from_first; rest = rw (add-one n) (goes_on ∙ ap (then_take cap few letters (few - suc n) (suc n)) w.is) }
 
-      pub pair_ended : {end : End} → went ≡ EndsCode end → Ends work₀ pairs₀ whole end work₁ pairs₁
+      pub pair_ended : {end : End} → went ≡ EndsCode end → EndsRooms work₀ pairs₀ whole end work₁ pairs₁
       pair_ended {end} e =
           let w = went_out from_first.tells e in
           let h = rw w.is at from_first in
@@ -146,7 +147,7 @@ none_placed work places pairs l =
 
 module _ (work : List ℕ) (places : ℕ) (pairs letters : List ℕ) (x y budget : ℕ) (good : GoodStore work places) (inside : (x < places) × (y < places))
     (legal : LegalPairs pairs) (bytes : Bytes letters) {went : CodeGoing} {pairs₁ : List ℕ}
-    (g : Goes work pairs (look (pairs_of pairs) x y 0 0 (found_word (table_in pairs 0) 0 0) (store_in work places) (table_in pairs 0) budget) went work pairs₁) where
+    (g : GoesRooms work pairs (look (pairs_of pairs) x y 0 0 (found_word (table_in pairs 0) 0 0) (store_in work places) (table_in pairs 0) budget) went work pairs₁) where
   abbrev searched : Search
   searched = search (places_of work) (pairs_of pairs) letters x y (store_in work places) budget
 
@@ -167,7 +168,7 @@ module _ (work : List ℕ) (places : ℕ) (pairs letters : List ℕ) (x y budget
   search_is = refl
 
   -- The opening pair differs, or finds no room.
-  pub opening_ended : {end : End} → went ≡ EndsCode end → Ends work pairs searched end work pairs₁
+  pub opening_ended : {end : End} → went ≡ EndsCode end → EndsRooms work pairs searched end work pairs₁
   opening_ended {end} e =
       let w = went_out g.tells e in
       let h = rw w.is at g in
@@ -186,8 +187,8 @@ module _ (work : List ℕ) (places : ℕ) (pairs letters : List ℕ) (x y budget
     take_call = (good_now stood₁, good_pairs_now stood₁)
 
     pub then_taken : {end : End} {work₂ pairs₂ : List ℕ}
-        → Ends work pairs₁ (take_pairs (pairs_of pairs₁) (places_of work) (pairs_of pairs₁) letters 0 (store_in work taken) (table_in pairs₁ placed) left) end work₂ pairs₂
-        → Ends work pairs searched end work₂ pairs₂
+        → EndsRooms work pairs₁ (take_pairs (pairs_of pairs₁) (places_of work) (pairs_of pairs₁) letters 0 (store_in work taken) (table_in pairs₁ placed) left) end work₂ pairs₂
+        → EndsRooms work pairs searched end work₂ pairs₂
     unfolding stood₁ stood_on
     then_taken h =
         let w = went_on_here in

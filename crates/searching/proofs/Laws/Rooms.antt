@@ -18,11 +18,11 @@ use Rattle.pairs.specs.Pair.{pair_at}
 use Rattle.pairs.specs.Room.{table_in, pairs_of, laid_pairs, TableStands}
 use Rattle.pairs.specs.Laws.Pair.{length_first_pairs, FittingPair}
 use Rattle.pairs.specs.Laws.Room.{table_of_laid, laid_laid_pairs, length_laid_pairs, stands_laid, laid_pairs_same}
-use Rattle.searching.specs.declared.going.End.{End}
-use Rattle.searching.specs.declared.going.Going.{Going as CodeGoing}
-use Rattle.searching.specs.declared.going.Going.TheVariants.{On, Ends as EndsCode}
+use Rattle.searching.proofs.Laws.Told.{End}
+use Rattle.searching.proofs.Laws.Told.{CodeGoing}
+use Rattle.searching.proofs.Laws.Told.{On, EndsCode}
 use Rattle.searching.specs.Search.{Search, Going, on, ends}
-use Rattle.searching.specs.Told.{GoodPairs, TellsEnd, TellsGoing, tells_on, tells_ends, end_store, end_table, going_store, going_table, Goes, Ends}
+use Rattle.searching.proofs.Laws.Told.{GoodPairs, TellsEnd, TellsGoing, tells_on, tells_ends, end_store, end_table, going_store, going_table, GoesRooms, EndsRooms}
 use Rattle.searching.specs.Laws.Keeps.{Tabled}
 use Rattle.searching.proofs.Laws.Keeps.{KeptBoth, kept_both_refl, kept_both_trans, KeepsSearch, keeps_same, keeps_different, keeps_stopped, KeepsGoing, keeps_on, keeps_ends_different, keeps_ends_stopped}
 
@@ -133,7 +133,7 @@ module _ {work₀ : List ℕ} {places : ℕ} {pairs₀ : List ℕ} {placed budge
   end_longer (keeps_stopped k) = (grows_length k.kept.grows, extends_length k.extends)
 
   pub goes_from : {g : Going} → KeepsGoing cap few store table left g → {answer : CodeGoing} {work' pairs' : List ℕ}
-      → Goes work pairs g answer work' pairs' → Goes work₀ pairs₀ g answer work' pairs'
+      → GoesRooms work pairs g answer work' pairs' → GoesRooms work₀ pairs₀ g answer work' pairs'
   goes_from {g} k h =
       let l = going_longer k in
       record {
@@ -143,7 +143,7 @@ module _ {work₀ : List ℕ} {places : ℕ} {pairs₀ : List ℕ} {placed budge
       }
 
   pub ends_from : {s : Search} → KeepsSearch cap few store table left s → {answer : End} {work' pairs' : List ℕ}
-      → Ends work pairs s answer work' pairs' → Ends work₀ pairs₀ s answer work' pairs'
+      → EndsRooms work pairs s answer work' pairs' → EndsRooms work₀ pairs₀ s answer work' pairs'
   ends_from {s} k h =
       let l = end_longer k in
       record {
@@ -196,7 +196,7 @@ went_out (tells_ends {s} {end = end'} t) {end} e =
 unfoldable pub stood_on : {work₀ : List ℕ} {places : ℕ} {pairs₀ : List ℕ} {placed budget : ℕ} {work pairs : List ℕ} {taken standing left : ℕ}
     → (u : Stood work₀ places pairs₀ placed budget work pairs taken standing left) → {g : Going} {taken' standing' left' : ℕ}
     → WentOn (places_of work₀) (pairs_of pairs₀) u.store u.table left g taken' standing' left'
-    → {answer : CodeGoing} {work₁ pairs₁ : List ℕ} → Goes work₀ pairs₀ g answer work₁ pairs₁
+    → {answer : CodeGoing} {work₁ pairs₁ : List ℕ} → GoesRooms work₀ pairs₀ g answer work₁ pairs₁
     → Stood work₀ places pairs₀ placed budget work₁ pairs₁ taken' standing' left'
 stood_on u w h =
     let k = rw w.is at h in

@@ -17,4 +17,4 @@ as-places s n = simp (get_or-drop, add-zero) (omega arith)
 pub returns : goal.returns
 returns c =
     let a = c.args in
-    c.four.ensures ∙ as-places a.run.now (8 * a.at)
+    omega (arith, c.from_le_bytes.ensures, as-places a.run.now (8 * a.at))
