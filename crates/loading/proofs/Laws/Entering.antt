@@ -1,7 +1,7 @@
 -- Entering a card: a card in good standing can be loaded with a map of an entry for each record that a pattern card may have, and the
 -- place of its last record, which is the root, ends the map.
-use Rattle.std.specs.Prelude.{ℕ, ◌-◌, ◌/◌, ◌<◌, ◌≤◌, List, [], ◌≡◌, refl, length, get_or, take}
-use Rattle.std.proofs.Common.{arith, sym, ◌∙◌, ap, ap₂, get_or-take}
+use Rattle.std.specs.Prelude.{ℕ, ◌-◌, ◌/◌, ◌<◌, ◌≤◌, List, [], ◌≡◌, length, get_or, take}
+use Rattle.std.proofs.Common.{arith, sym, ◌∙◌, ap, get_or-take}
 use Rattle.language.specs.Word.{Bytes}
 use Rattle.records.specs.declared.record.Record.{Record}
 use Rattle.refusals.specs.Order.{Good}
@@ -13,13 +13,12 @@ use Rattle.cards.proofs.Laws.Examine.{good_length}
 use Rattle.std.specs.declared.result.Result.{Result}
 use Rattle.std.specs.declared.result.Result.TheVariants.{Ok, Err}
 use Rattle.refusals.specs.declared.refusal.Refusal.{Refusal}
-use Rattle.refusals.specs.declared.refusal.Refusal.TheVariants.{NoFreePlace}
 use Rattle.refusals.specs.Limits.{most_places}
 use Rattle.store.specs.declared.work.Work.{Work}
 use Rattle.store.specs.Work.{store_of, space_of}
 use Rattle.store.proofs.Laws.Wall.{grows_length}
 use Rattle.store.proofs.Laws.GoodRoom.{room_ready, length_store_in}
-use Rattle.loading.specs.Loading.{root, Loading, loaded, no_room, load}
+use Rattle.loading.specs.Loading.{root, Loading, load}
 use Rattle.loading.specs.Told.{Loadable, Mapped, Loads, Enters}
 use Rattle.loading.proofs.Laws.Loading.{AllLoaded, LoadLaw, all_loaded, was_full, load_law}
 use Rattle.loading.proofs.Laws.Cards.{examined_loadable, some_record, good_card}
@@ -93,14 +92,3 @@ module _ (w : Work) (card : List ℕ) (cards : Bytes card) (good : pattern_card 
 
       pub root_fits : get_or map (length card / 8 - 1) 0 < most_places
       root_fits = let g = w'.good in let f = g.fits in let n = g.short in omega (arith, root_stands)
-
-    -- The room is full.
-    pub entered_full : {refusal : Refusal} → answer ≡ Err refusal → (refusal ≡ NoFreePlace) × Enters w loads (Err NoFreePlace) w'
-    entered_full {refusal} e = go law told
-      where
-        go : {l : Loading} {s₀ : List Record} → LoadLaw (space_of w) (records card) s₀ [] (records card) l → Loads w l answer w'
-            → (refusal ≡ NoFreePlace) × Enters w l (Err NoFreePlace) w'
-        go (all_loaded h) t = absurd (not_both t.answers e)
-        go (was_full f) t =
-            let by = t.answers in
-            (cc, record { answers = refl; holds = t.holds; unspent = t.unspent })

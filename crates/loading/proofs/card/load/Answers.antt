@@ -8,12 +8,11 @@ use Rattle.loading.proofs.Laws.LoadingRoom.{at_first, at_last, left_mapped, righ
 use Rattle.loading.proofs.card.load.Goals as goal
 
 pub loop-at-init : goal.loop-at-init
-loop-at-init c =
-    (
-      at_first c.args.work.now.room.now c.args.work.now.places c.args.card.now c.args.map.now c.args.work.now.good c.requires
-          (λ i. (c.shared_slice_known-1.given i).fits),
-      (refl, refl)
-    )
+loop-at-init c = (
+  at_first c.args.work.now.room.now c.args.work.now.places c.args.card.now c.args.map.now c.args.work.now.good c.requires
+      (λ i. (c.shared_slice_known-1.given i).fits),
+  (refl, refl),
+)
 
 pub child_place-left-requires : goal.child_place-left-requires
 child_place-left-requires c = left_mapped c.loop-at.invariant.0 c.loop-at-test.true c.read-r.ensures

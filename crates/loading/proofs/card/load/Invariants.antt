@@ -1,6 +1,6 @@
 -- `load` answers as the definition does: with the records before `at` loaded, the store that stands in the room and the places that
 -- begin the map are those from which the definition loads the rest.
-use Rattle.std.specs.Prelude.{ℕ, ◌≡◌}
+use Rattle.std.specs.Prelude.{◌≡◌}
 use Rattle.loading.proofs.Laws.LoadingRoom.{Underway}
 use Rattle.loading.proofs.card.load.Given as goal
 
