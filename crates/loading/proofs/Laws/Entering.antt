@@ -13,7 +13,6 @@ use Rattle.cards.proofs.Laws.Examine.{good_length}
 use Rattle.std.specs.declared.result.Result.{Result}
 use Rattle.std.specs.declared.result.Result.TheVariants.{Ok, Err}
 use Rattle.refusals.specs.declared.refusal.Refusal.{Refusal}
-use Rattle.refusals.specs.Limits.{most_places}
 use Rattle.store.specs.declared.work.Work.{Work}
 use Rattle.store.specs.Work.{store_of, space_of}
 use Rattle.store.proofs.Laws.Wall.{grows_length}
@@ -89,6 +88,3 @@ module _ (w : Work) (card : List ℕ) (cards : Bytes card) (good : pattern_card 
               → get_or map (length card / 8 - 1) 0 < w'.places
           go (all_loaded h) t m = omega (arith, root_inside map h m, t.holds.taken)
           go (was_full f) t m = absurd (not_both e t.answers)
-
-      pub root_fits : get_or map (length card / 8 - 1) 0 < most_places
-      root_fits = let g = w'.good in let f = g.fits in let n = g.short in omega (arith, root_stands)
