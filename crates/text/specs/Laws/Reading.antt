@@ -1,5 +1,5 @@
 -- Readers at work: what is read so far, in front of what is left of the text, and what each way out of a reader's loop says of the whole.
-use Rattle.std.specs.Prelude.{ℕ, ◌+◌, ◌-◌, ◌*◌, ◌<◌, ◌≤◌, ◌≡◌, refl, length, get_or, set, Bool, true, false, eqb, Option, Some, None, ⊤}
+use Rattle.std.specs.Prelude.{ℕ, ◌+◌, ◌-◌, ◌*◌, ◌<◌, ◌≤◌, ◌≡◌, refl, length, get_or, set, Bool, true, false, eqb, Option, Some, None, is_some, ⊤}
 use Rattle.std.specs.List.{starts_with}
 use Rattle.std.proofs.Math.Numerals.{add-one}
 use Rattle.std.proofs.lemmas.Bool.Decides.{Decides-eqb}
@@ -343,6 +343,18 @@ module _ {text : List ℕ} {from : ℕ} {piece : List ℕ} where
 
   pub passed_not : {at : ℕ} → Passes text from piece None at → (rest : List ℕ) → drop from text ≡ piece ++ rest → ⊥
   passed_not (passes_not f) = f
+
+  -- The same where it is asked whether the piece was passed, as a caller with another piece to try does.
+  pub passed_some : {r : Option ⊤} {at : ℕ} → Passes text from piece r at → is_some r ≡ true → PassedTo text from piece at
+  passed_some (passes l e) t = record { inside = l; read = e }
+  passed_some (passes_not f) t = absurd (true≢false (sym t))
+
+  pub passed_none : {r : Option ⊤} {at : ℕ} → Passes text from piece r at → is_some r ≡ false → Passes text from piece None at
+  passed_none (passes l e) t = absurd (true≢false t)
+  passed_none (passes_not f) t = passes_not f
+
+  pub stays : {at : ℕ} → Passes text from piece None at → at ≡ from
+  stays (passes_not f) = refl
 
 -- A number is read, up to a place, or there is none.
 pub record NumberTo (text : List ℕ) (from most n to : ℕ) : Type 0 where
