@@ -1,4 +1,4 @@
-// Lines with names, each ended by a line feed: bytes in hex, and numbers.
+// Lines with names, each ended by a line feed: bytes in hex, and numbers. Where no such line stands there, the reader stands somewhere in what does.
 ghost use Rattle.std.specs.Prelude.{◌≡◌, ◌*◌, ◌≤◌, length};
 ghost use Rattle.text.specs.Told.{ReadsHexLine, ReadsNumberLine};
 
