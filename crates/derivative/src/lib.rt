@@ -3,11 +3,9 @@
 #![tactic(auto)]
 
 ghost use Rattle.std.specs.Prelude.{◌≡◌, cond, ℕ, ◌<◌, ◌≤◌, IfOk};
-ghost use Rattle.store.specs.Room.{store_in, places_of};
-ghost use Rattle.store.specs.Told.{Makes};
-ghost use Rattle.store.specs.Good.{GoodStore};
+ghost use Rattle.records.specs.Kind.{choice_kind};
 ghost use Rattle.store.specs.Work.{store_of, space_of};
-ghost use Rattle.derivative.specs.Derivative.{price, after_product, derive_to};
+ghost use Rattle.derivative.specs.Derivative.{price, of_making, making, after_product, derive_to};
 ghost use Rattle.derivative.specs.Parts.{asked, product_of, with_left, derive_parts};
 ghost use Rattle.derivative.specs.Told.{Comes};
 
@@ -117,24 +115,25 @@ fn with_left(
     ensures same_room { work.new.room.ghost_name ≡ work.old.room.ghost_name }
     ensures comes { (depth : ℕ) → cond both right 0 < depth → Comes work.old (with_left (λ p s b. derive_to depth (space_of work.old) letter p s b) (space_of work.old) x right product both (store_of work.old) work.old.budget) result work.new }
 {
-    let y = product_of(work.room, &mut work.places, x, right, product)?;
+    let y = product_of(work, x, right, product)?;
     with_right(work, y, right, both, letter)
 }
 
 // The product of x with the right part where it is asked for, and else x.
-fn product_of(
-    room: &mut [u8],
-    places: &mut usize,
-    x: usize,
-    right: usize,
-    product: bool,
-) -> Result<usize, Refusal>
-    requires good_store { GoodStore room.old places.old }
-    requires both_stand { (x < places.old) × (right < places.old) }
-    ensures { Makes room.old (product_of (places_of room.old) (store_in room.old places.old) x right product) result room.new places.new }
+fn product_of(work: &mut Work<'_>, x: usize, right: usize, product: bool) -> Result<usize, Refusal>
+    requires { (x < work.old.places) × (right < work.old.places) }
+    ensures same_room { work.new.room.ghost_name ≡ work.old.room.ghost_name }
+    ensures comes { Comes work.old (of_making (product_of (space_of work.old) (store_of work.old) x right product) work.old.budget) result work.new }
 {
     if product {
-        make(room, places, Kind::Sequence as u8, 0, x, right)
+        make(
+            work.room,
+            &mut work.places,
+            Kind::Sequence as u8,
+            0,
+            x,
+            right,
+        )
     } else {
         Ok(x)
     }
@@ -157,5 +156,15 @@ fn with_right(
         return Ok(x);
     }
     let y = derive(work, right, letter)?;
+    choice_of(work, x, y)
+}
+
+// The choice of x and y. It stays a call of its own, so that what making takes of the stack is taken once and not a level.
+#[inline(never)]
+fn choice_of(work: &mut Work<'_>, x: usize, y: usize) -> Result<usize, Refusal>
+    requires { (x < work.old.places) × (y < work.old.places) }
+    ensures same_room { work.new.room.ghost_name ≡ work.old.room.ghost_name }
+    ensures comes { Comes work.old (making (space_of work.old) choice_kind x y (store_of work.old) work.old.budget) result work.new }
+{
     make(work.room, &mut work.places, Kind::Choice as u8, 0, x, y)
 }

@@ -16,10 +16,8 @@ use Rattle.cards.specs.Standing.{LineOf, Line}
 use Rattle.store.specs.declared.work.Work.{Work}
 use Rattle.store.specs.Work.{store_of, space_of}
 use Rattle.store.specs.Told.{Makes}
-use Rattle.store.proofs.Laws.Told.{Made, Placed, Full}
 use Rattle.store.specs.Room.{store_in, places_of, laid}
-use Rattle.store.specs.Making.{Making, placed, full, make, after}
-use Rattle.store.proofs.Laws.Told.{told_making}
+use Rattle.store.specs.Making.{Making, placed, full, make}
 use Rattle.store.specs.Good.{GoodStore}
 use Rattle.store.proofs.Laws.Room.{laid_same, laid_laid, child_in_room}
 use Rattle.store.specs.Laws.Wall.{Ready, Kept}
@@ -32,7 +30,7 @@ use Rattle.derivative.specs.declared.Visited.TheVariants.{Leaf, Parts}
 use Rattle.derivative.specs.Derivative.{Deriving, derived, stopped, price, and_then, of_making, making, after_product, derive_record, derive_to}
 use Rattle.derivative.specs.Parts.{asks, asked, product_of, with_left, derive_parts, derive_asked}
 use Rattle.derivative.specs.Told.{deriving_told, Comes}
-use Rattle.derivative.proofs.Laws.Told.{after_deriving, ComesRoom, of_made}
+use Rattle.derivative.proofs.Laws.Told.{after_deriving, ComesRoom}
 use Rattle.derivative.proofs.Laws.Steps.{Step, StepLaw, was_done, was_ended, two_makeable, making_law}
 use Rattle.derivative.proofs.Laws.Derivative.{is_unpaid, is_paid, derive_to_law}
 
@@ -198,12 +196,6 @@ module _ {room : List ℕ} {places : ℕ} (good : GoodStore room places) where
         leaves = sym (laid_same places room good.fits good.bytes);
       }
 
--- What was made, by what the code told of it.
-comes_made : {room : List ℕ} (m : Making) (budget : ℕ) {told : Made} {exit : List ℕ} → told ≡ told_making m → exit ≡ laid (after m) room
-    → {answer : Derived} → answer ≡ of_made told budget → ComesRoom room (of_making m budget) answer exit
-comes_made (placed place store) budget e l f = record { answers = f ∙ ap (λ (t : Made). of_made t budget) e; leaves = l }
-comes_made (full store) budget e l f = record { answers = f ∙ ap (λ (t : Made). of_made t budget) e; leaves = l }
-
 -- What a making leaves in a room is good again, whether it came to a place or found none free.
 made_good : {room : List ℕ} {places : ℕ} → GoodStore room places → (m : Making) (budget : ℕ) → Keeps (places_of room) (store_in room places) (of_making m budget)
     → {answer : Result ℕ Refusal} {room' : List ℕ} {places' : ℕ} → Makes room m answer room' places' → GoodStore room' places'
@@ -211,11 +203,11 @@ made_good {room} good (placed place store) budget (derives k l) made = rw (made.
 made_good {room} good (full store) budget (stops k) made = rw (made.leaves, made.taken) (good_after room k good)
 
 module _ {room : List ℕ} {places : ℕ} (good : GoodStore room places) {x y : ℕ} (inside : (x < places) × (y < places)) where
-  pub product_good : (product : Bool) {answer : Result ℕ Refusal} {room' : List ℕ} {places' : ℕ}
-      → Makes room (product_of (places_of room) (store_in room places) x y product) answer room' places' → GoodStore room' places'
-  product_good product made =
-      made_good good (product_of (places_of room) (store_in room places) x y product) 0
-      (product_keeps (room_ready good) x y product (in_store room inside.0) (in_store room inside.1) 0) made
+  pub sequence_good : {answer : Result ℕ Refusal} {room' : List ℕ} {places' : ℕ}
+      → Makes room (make (places_of room) (store_in room places) sequence_kind 0 x y) answer room' places' → GoodStore room' places'
+  sequence_good made =
+      made_good good (make (places_of room) (store_in room places) sequence_kind 0 x y) 0
+      (sequence_keeps (room_ready good) x y (in_store room inside.0) (in_store room inside.1) 0) made
 
   pub choice_good : {answer : Result ℕ Refusal} {room' : List ℕ} {places' : ℕ}
       → Makes room (make (places_of room) (store_in room places) choice_kind 0 x y) answer room' places' → GoodStore room' places'
@@ -246,10 +238,6 @@ module _ (letter : ℕ) (room : List ℕ) (places : ℕ) where
   DerivesParts left right product both budget answer exit =
       (depth : ℕ) → left < depth → cond both right 0 < depth
       → ComesRoom room (derive_parts (D letter depth cap) cap left right product both store budget) answer exit
-
--- What making ensures of such a room, as the laws go by it.
-abbrev pub MakesRoom : List ℕ → Making → Made → List ℕ → Type 0
-MakesRoom room m told exit = (told ≡ told_making m) × (exit ≡ laid (after m) room)
 
 -- Where a derivation comes to a place, that place is taken, and no place taken is given up.
 keeps_told : {cap : ℕ} {store : List Record} (answer : Result ℕ Refusal) (store' : List Record) (budget : ℕ) → Keeps cap store (deriving_told answer store' budget)
@@ -292,14 +280,13 @@ module _ (letter : ℕ) (byte : IsByte letter) {room : List ℕ} {places : ℕ} 
       other_there : other < length (store_in room₁ taken)
       other_there = let m = (first_next e).more in in_store room₁ {places = taken} (omega arith)
 
-      pub right_made : {told : Made} {exit : List ℕ} → MakesRoom room₁ (make (places_of room₁) (store_in room₁ taken) choice_kind 0 other x) told exit
-          → {answer : Derived} → answer ≡ of_made told rest → {both : Bool} → both ≡ true
-          → DerivesRight letter room places other place both budget answer exit
-      right_made (t, w) f g depth l =
+      pub right_made : {answer : Derived} {exit : List ℕ}
+          → ComesRoom room₁ (making (places_of room₁) choice_kind other x (store_in room₁ taken) rest) answer exit
+          → {both : Bool} → both ≡ true → DerivesRight letter room places other place both budget answer exit
+      right_made made g depth l =
           rw g
           (comes_then good (first_stands e depth (rw g at l)) (λ cap y s b. making cap choice_kind other y s b)
-          (choice_keeps ready other x other_there x_there rest)
-          (comes_made (make (places_of room₁) (store_in room₁ taken) choice_kind 0 other x) rest t w f))
+          (choice_keeps ready other x other_there x_there rest) made)
 
       pub parts_derived : (product both : Bool) {answer : Derived} {exit : List ℕ} → DerivesLeft letter room₁ taken x other product both rest answer exit
           → DerivesParts letter room places place other product both budget answer exit
@@ -309,33 +296,23 @@ module _ (letter : ℕ) (byte : IsByte letter) {room : List ℕ} {places : ℕ} 
           (h depth m)
 
   -- The product of x with the right part is made first, where it is asked for.
-  module _ (x right budget : ℕ) (inside : (x < places) × (right < places)) (product both : Bool) {told : Made} {room₁ : List ℕ}
-      (made : MakesRoom room (product_of (places_of room) (store_in room places) x right product) told room₁) where
-    abbrev producing : Making
-    producing = product_of (places_of room) (store_in room places) x right product
+  module _ (x right budget : ℕ) (inside : (x < places) × (right < places)) (product both : Bool) {told : Derived} {room₁ : List ℕ}
+      (made : ComesRoom room (of_making (product_of (places_of room) (store_in room places) x right product) budget) told room₁) where
+    product_stands : {y taken rest : ℕ} → told ≡ At rest y taken
+        → Stands room places (of_making (product_of (places_of room) (store_in room places) x right product) budget) y taken rest room₁
+    product_stands e = stands (product_keeps (room_ready good) x right product (in_store room inside.0) (in_store room inside.1) budget) made e
 
-    product_comes : {told' : Made} → told ≡ told' → ComesRoom room (of_making producing budget) (of_made told' budget) room₁
-    product_comes e = comes_made producing budget made.0 made.1 (ap (λ (m : Made). of_made m budget) (sym e))
-
-    product_stands : {y taken : ℕ} → told ≡ Placed y taken → Stands room places (of_making producing budget) y taken budget room₁
-    product_stands e =
-        stands (product_keeps (room_ready good) x right product (in_store room inside.0) (in_store room inside.1) budget) (product_comes e) refl
-
-    pub product_next : {y taken : ℕ} → told ≡ Placed y taken → Next places room₁ y taken
+    pub product_next : {y taken rest : ℕ} → told ≡ At rest y taken → Next places room₁ y taken
     product_next e = next good (product_stands e)
 
-    pub product_full : {taken : ℕ} → told ≡ Full taken → DerivesLeft letter room places x right product both budget (Stopped 7 taken budget) room₁
-    product_full e depth l =
-        stopped_then (product_comes e) refl (λ y s b. after_product (D letter depth (places_of room)) (places_of room) right both y s b)
-
-    pub product_placed : {y taken : ℕ} → told ≡ Placed y taken → {answer : Derived} {exit : List ℕ}
-        → DerivesRight letter room₁ taken y right both budget answer exit
+    pub product_placed : {y taken rest : ℕ} → told ≡ At rest y taken → {answer : Derived} {exit : List ℕ}
+        → DerivesRight letter room₁ taken y right both rest answer exit
         → DerivesLeft letter room places x right product both budget answer exit
-    product_placed {y} {taken} e h depth l =
+    product_placed {y} {taken} {rest} e h depth l =
         let n = product_next e in
         let right_there : right < taken = let m = n.more in let b = inside.1 in omega arith in
         comes_then good (product_stands e) (λ cap z s b. after_product (D letter depth cap) cap right both z s b)
-        (right_keeps letter byte depth (room_ready n.good) y right both l (in_store room₁ n.inside) (in_store room₁ right_there) budget)
+        (right_keeps letter byte depth (room_ready n.good) y right both l (in_store room₁ n.inside) (in_store room₁ right_there) rest)
         (h depth l)
 
 -- The right part is not asked for.
@@ -344,10 +321,9 @@ pub right_unasked : (letter : ℕ) {room : List ℕ} {places : ℕ} → GoodStor
 right_unasked letter good x right budget e depth l = rw e (derived_here good x budget)
 
 -- No product is asked for.
-pub product_unasked : {room : List ℕ} {places : ℕ} → GoodStore room places → (x right : ℕ) {product : Bool} → product ≡ false
-    → MakesRoom room (product_of (places_of room) (store_in room places) x right product) (Placed x places) room
-product_unasked {room} {places} good x right e =
-    rw e (ap (Placed x) (sym (length_store_in room places)), sym (laid_same places room good.fits good.bytes))
+pub product_unasked : {room : List ℕ} {places : ℕ} → GoodStore room places → (x right budget : ℕ) {product : Bool} → product ≡ false
+    → ComesRoom room (of_making (product_of (places_of room) (store_in room places) x right product) budget) (At budget x places) room
+product_unasked good x right budget e = rw e (derived_here good x budget)
 
 -- Once the visit is paid: the definition, kind by kind, is what the record asks for.
 then_derived : (d : Deriving) → and_then d (λ x s b. derived x s b) ≡ d

@@ -6,7 +6,6 @@ use Rattle.std.specs.declared.result.Result.{Result}
 use Rattle.std.specs.declared.result.Result.TheVariants.{Ok, Err}
 use Rattle.refusals.specs.declared.refusal.Refusal.{Refusal}
 use Rattle.refusals.specs.Number.{number}
-use Rattle.refusals.specs.Numbers.{no_free_place}
 use Rattle.records.specs.declared.record.Record.{Record}
 use Rattle.store.specs.declared.work.Work.{Work}
 use Rattle.store.specs.Room.{laid, store_in}
@@ -14,9 +13,8 @@ use Rattle.store.specs.Work.{store_of}
 use Rattle.store.proofs.Laws.Room.{store_of_laid}
 use Rattle.store.proofs.Laws.GoodRoom.{length_store_in}
 use Rattle.store.specs.Making.{Making, placed, full}
-use Rattle.store.specs.Told.{making_answer}
-use Rattle.store.proofs.Laws.Told.{Made, Placed, Full, made_of}
-use Rattle.derivative.specs.Derivative.{Deriving, derived, stopped}
+use Rattle.store.specs.Told.{Makes}
+use Rattle.derivative.specs.Derivative.{Deriving, derived, stopped, of_making}
 use Rattle.derivative.specs.Both.{DerivingBoth, both_derived, one_stopped}
 use Rattle.derivative.specs.Told.{deriving_told, Comes, both_told, BothCome}
 
@@ -44,11 +42,6 @@ pub record ComesRoom (room : List ℕ) (d : Deriving) (answer : Derived) (room' 
   pub answers : answer ≡ told_deriving d
   pub leaves : room' ≡ laid (after_deriving d) room
 
--- What the code answers of a making within a derivation.
-abbrev pub of_made : Made → ℕ → Derived
-of_made (Placed place taken) budget = At budget place taken
-of_made (Full taken) budget = Stopped no_free_place taken budget
-
 -- The same of two places derived by one letter.
 abbrev pub told_both : DerivingBoth → Both
 told_both (both_derived x y store budget) = BothAt x y (length store) budget
@@ -71,12 +64,6 @@ derived_of (Err refusal) taken budget = Stopped (number refusal) taken budget
 abbrev pub both_of : Result (ℕ × ℕ) Refusal → ℕ → ℕ → Both
 both_of (Ok p) taken budget = BothAt p.0 p.1 taken budget
 both_of (Err refusal) taken budget = OneStopped (number refusal) taken budget
-
--- A making's answer tells the same of the derivation that it ends.
-pub derived_of_made : (m : Making) {answer : Result ℕ Refusal} → answer ≡ making_answer m → (taken budget : ℕ)
-    → derived_of answer taken budget ≡ of_made (made_of answer taken) budget
-derived_of_made (placed place store) e taken budget = rw e refl
-derived_of_made (full store) e taken budget = rw e refl
 
 -- From what a contract says to what the laws of rooms go by.
 
@@ -116,6 +103,16 @@ both_come_room {w} {d} {answer} {w'} c =
 
 store_left : (w : Work) {store : List Record} (w' : Work) → w'.places ≡ length store → w'.room.now ≡ laid store w.room.now → store_of w' ≡ store
 store_left w {store} w' p r = ap₂ store_in r p ∙ store_of_laid store w.room.now
+
+-- A making, as a step of a derivation.
+pub making_comes : {w : Work} (m : Making) {answer : Result ℕ Refusal} {w' : Work}
+    → Makes w.room.now m answer w'.room.now w'.places → w'.budget ≡ w.budget → Comes w (of_making m w.budget) answer w'
+making_comes {w} (placed place store) {w'} made b =
+    let s : store_of w' ≡ store = store_left w w' made.taken made.leaves in
+    record { is = rw (made.answers, s, b) refl; leaves = made.leaves ∙ ap (λ (s : List Record). laid s w.room.now) (sym s) }
+making_comes {w} (full store) {w'} made b =
+    let s : store_of w' ≡ store = store_left w w' made.taken made.leaves in
+    record { is = rw (made.answers, s, b) refl; leaves = made.leaves ∙ ap (λ (s : List Record). laid s w.room.now) (sym s) }
 
 same_derived : {b p n b' p' n' : ℕ} → At b p n ≡ At b' p' n' → (b ≡ b') × (p ≡ p') × (n ≡ n')
 same_derived e = (cc, cc, cc)

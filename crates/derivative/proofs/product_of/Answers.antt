@@ -1,9 +1,23 @@
--- `product_of` answers x, and leaves the room as it is, where no product is asked for.
-use Rattle.store.proofs.Laws.Told.{told_placed}
-use Rattle.derivative.proofs.Laws.Rooms.{product_unasked}
+-- `product_of` makes the product where it is asked for, and else leaves the room as it is.
+use mathlib.Core.Path.{refl}
+use Rattle.std.specs.declared.result.Result.TheVariants.{Ok}
+use Rattle.records.specs.Kind.{sequence_kind}
+use Rattle.store.specs.Making.{make}
+use Rattle.store.specs.Work.{store_of, space_of}
+use Rattle.derivative.proofs.Laws.Told.{room_comes, making_comes}
+use Rattle.derivative.proofs.Laws.Rooms.{sequence_good, product_unasked}
 use Rattle.derivative.proofs.product_of.Goals as goal
 
-pub returns-else-product : goal.returns-else-product
-returns-else-product c =
-    let told = product_unasked c.requires.good_store c.args.x c.args.right c.if-product.false in
-    told_placed told.0 told.1
+pub invariant_of-work : goal.invariant_of-work
+invariant_of-work c = record { good = sequence_good c.args.work.now.good c.requires c.make.ensures }
+
+pub returns-then-product-clause-comes : goal.returns-then-product-clause-comes
+returns-then-product-clause-comes c =
+    let a = c.args in
+    rw c.if-product.true
+    (making_comes (make (space_of a.work.now) (store_of a.work.now) sequence_kind 0 a.x a.right) c.make.ensures refl)
+
+pub returns-else-product-clause-comes : goal.returns-else-product-clause-comes
+returns-else-product-clause-comes c =
+    let a = c.args in
+    room_comes _ (Ok a.x) (product_unasked a.work.now.good a.x a.right a.work.now.budget c.if-product.false)
