@@ -1,7 +1,7 @@
 -- The call `fits` by its parts: refused at once it leaves the room as it is; else it begins with a fresh store in the room, and what is judged from
 -- there is judged of the call.
 use Rattle.std.specs.Prelude.{ℕ, ◌-◌, ◌/◌, ◌≤◌, false, Bool, List, ◌≡◌, length}
-use Rattle.std.proofs.Common.{sym, ◌∙◌, ap}
+use Rattle.std.proofs.Common.{arith, sym, ◌∙◌, ap}
 use Rattle.std.proofs.Math.Path.{refl}
 use Rattle.std.specs.declared.result.Result.{Result}
 use Rattle.std.specs.declared.result.Result.TheVariants.{Ok, Err}
@@ -12,17 +12,17 @@ use Rattle.answers.specs.Matching.{told}
 use Rattle.language.specs.Word.{Bytes}
 use Rattle.records.specs.Record.{run_of}
 use Rattle.refusals.specs.Number.{number}
-use Rattle.refusals.specs.Order.{Standing, Good, Refused}
+use Rattle.refusals.specs.Order.{Standing, Good}
 use Rattle.refusals.specs.Told.{standing_told}
 use Rattle.cards.specs.Examine.{pattern_card}
 use Rattle.store.specs.declared.work.Work.{Work}
 use Rattle.store.specs.Room.{wrong_room, places_of, laid, fresh_store}
-use Rattle.store.specs.Work.{store_of, space_of}
+use Rattle.store.specs.Work.{space_of}
 use Rattle.store.proofs.Laws.Room.{laid_laid}
 use Rattle.store.proofs.Laws.Wall.{grows_length}
 use Rattle.store.proofs.Laws.LegalRoom.{LegalRoom, legal_room}
 use Rattle.loading.specs.Told.{Begun}
-use Rattle.loading.proofs.Laws.FreshRoom.{length_fresh, over_fresh}
+use Rattle.loading.proofs.Laws.FreshRoom.{length_fresh}
 use Rattle.matching.specs.Refusals.{standing_of}
 use Rattle.matching.specs.Fits.{Outcome, fits_in, fits_standing, fits_outcome}
 use Rattle.matching.specs.Promise.{Fits, judged_told, Judges}
@@ -86,13 +86,14 @@ module _ {card word room : List ℕ} (budget : ℕ) {found : Result (Unit {0}) R
       -- What is judged there is told of the call.
       pub judged_call : {answer : Result Bool Refusal} {w' : Work}
           → Judges w (outcome_in w card word) answer w'
-          → {match : Match} → told match ≡ judged_told answer w'.places (budget - w'.budget) → Fits card word room budget match w'.room.now
-      judged_call {answer} {w'} j t =
+          → {match : Match} → told match ≡ judged_told answer w'.places (budget - w'.budget) → {room' : List ℕ} → room' ≡ w'.room.now
+          → Fits card word room budget match room'
+      judged_call {answer} {w'} j t l =
           let o = outcome_in w card word in
           let asked : Asked card word = record { cards = k.cards; letters = k.letters; good = good } in
           let longer : length fresh_store ≤ length o.store =
-                  rw b.fresh at (grows_length (outcome_kept w {word = word} asked).grows)
+          omega (arith, ap length b.fresh, grows_length (outcome_kept w {word = word} asked).grows)
           in
           promised outcome_is
           (t ∙ ap (λ (n : ℕ). judged_told answer w'.places (n - w'.budget)) (sym whole) ∙ j.tells)
-          (j.leaves ∙ ap (laid o.store) r ∙ laid_laid fresh_store o.store room longer)
+          (l ∙ j.leaves ∙ ap (laid o.store) r ∙ laid_laid fresh_store o.store room longer)

@@ -1,19 +1,16 @@
 -- Matching in a work room: what the code answers of following and of judging, with what it leaves, is what the next step goes on from, since the
 -- store that stands in the room is good again.
-use Rattle.std.specs.Prelude.{ℕ, suc, ◌+◌, ◌-◌, ◌<◌, ◌≤◌, Bool, cond, List, [], ◌≡◌, refl, length, get_or}
+use Rattle.std.specs.Prelude.{ℕ, suc, ◌+◌, ◌<◌, ◌≤◌, Bool, List, [], ◌≡◌, refl, length, get_or}
 use Rattle.std.proofs.Common.{add-one, arith, sym, ◌∙◌, ap₂, drop-cons}
 use Rattle.std.proofs.Math.Path.{ap}
 use Rattle.std.proofs.Math.ListN.{drop, drop_of_length-le}
 use Rattle.std.specs.declared.result.Result.{Result}
 use Rattle.std.specs.declared.result.Result.TheVariants.{Ok, Err}
 use Rattle.refusals.specs.declared.refusal.Refusal.{Refusal}
-use Rattle.refusals.specs.declared.refusal.Refusal.TheVariants.{NoFreePlace}
-use Rattle.answers.specs.Matching.{yes, no}
 use Rattle.language.specs.Word.{Bytes}
 use Rattle.records.specs.declared.record.Record.{Record}
 use Rattle.records.specs.Record.{records, child}
 use Rattle.refusals.specs.Order.{Good}
-use Rattle.refusals.specs.Number.{number}
 use Rattle.cards.specs.Examine.{pattern_card}
 use Rattle.cards.specs.Mark.{marked}
 use Rattle.store.specs.declared.work.Work.{Work}
@@ -22,17 +19,17 @@ use Rattle.store.specs.Work.{store_of, space_of}
 use Rattle.store.proofs.Laws.Room.{laid_same, laid_laid}
 use Rattle.store.specs.Laws.Wall.{Ready, Kept}
 use Rattle.store.proofs.Laws.Wall.{grows_length, kept_refl, kept_trans}
-use Rattle.store.proofs.Laws.GoodRoom.{room_ready, length_store_in, length_after, places_after, store_after}
-use Rattle.loading.specs.Loading.{root, Loading, loaded, no_room, load, after_loading}
+use Rattle.store.proofs.Laws.GoodRoom.{room_ready, length_store_in, places_after, store_after}
+use Rattle.loading.specs.Loading.{root, Loading, loaded, load, after_loading}
 use Rattle.loading.specs.Told.{Enters, entering_answer}
 use Rattle.loading.proofs.Laws.Loading.{LoadLaw, all_loaded, was_full, load_law}
 use Rattle.loading.proofs.Laws.Cards.{good_card, card_loaded}
-use Rattle.derivative.specs.Derivative.{Deriving, derived, stopped, and_then, derive}
+use Rattle.derivative.specs.Derivative.{Deriving, and_then, derive}
 use Rattle.derivative.specs.Told.{deriving_told, Comes}
 use Rattle.derivative.proofs.Laws.Derivative.{derive_law}
 use Rattle.derivative.proofs.Laws.Rooms.{Keeps, derives, stops, step_keeps, in_store}
 use Rattle.matching.specs.Fits.{Outcome, follow, judged, follow_loaded}
-use Rattle.matching.specs.Promise.{judged_told, Judges}
+use Rattle.matching.specs.Promise.{Judges}
 use Rattle.matching.proofs.Laws.Follow.{left_of, follow_law, follow_visits}
 
 -- What following a word from a place of the store comes to.
@@ -45,9 +42,6 @@ kept_told : {cap : ℕ} {store store' : List Record} (answer : Result ℕ Refusa
     → Kept cap store store'
 kept_told (Ok place) left (derives k l) = k
 kept_told (Err refusal) left (stops k) = k
-
-inside_told : {cap : ℕ} {store store' : List Record} {place left : ℕ} → Keeps cap store (derived place store' left) → place < length store'
-inside_told (derives k l) = l
 
 left_told : (answer : Result ℕ Refusal) (store : List Record) (left : ℕ) → left_of (deriving_told answer store left) ≡ left
 left_told (Ok place) store left = refl
@@ -134,13 +128,13 @@ module _ {w₀ : Work} {place : ℕ} {word : List ℕ} {w : Work} {here at : ℕ
         }
 
     -- A place was derived, from where the rest is followed.
-    pub when_derived : w₁.room.ghost_name ≡ w.room.ghost_name → {next : ℕ} → answer ≡ Ok next → Underway w₀ place word w₁ next (at + 1)
-    when_derived same {next} e =
+    pub when_derived : w₁.room.ghost_name ≡ w.room.ghost_name → {next : ℕ} → answer ≡ Ok next → next < w₁.places → Underway w₀ place word w₁ next (at + 1)
+    when_derived same {next} e inside =
         record {
           same_room = same ∙ u.same_room;
           room_is = room_on;
           kept = kept_trans u.kept kept_on;
-          inside = omega (arith, inside_told (rw e at keeps), taken_in w₁);
+          inside = inside;
           rest =
               rw add-one
               (goes_on ∙ ap (λ (r : Result ℕ Refusal). and_then (deriving_told r (store_of w₁) w₁.budget) onward) e);
@@ -157,12 +151,9 @@ module _ {w : Work} {place : ℕ} (inside : place < w.places) {word : List ℕ} 
   followed_spent : w'.budget ≤ w.budget
   followed_spent =
       let left : left_of (following_in w word place) ≡ w'.budget =
-              ap left_of c.is ∙ left_told answer (store_of w') w'.budget
+      ap left_of c.is ∙ left_told answer (store_of w') w'.budget
       in
       omega (arith, left, follow_visits letters (space_of w) place (store_of w) w.budget (in_store w.room.now inside) (work_ready w))
-
-  followed_inside : {last : ℕ} → answer ≡ Ok last → last < w'.places
-  followed_inside e = omega (arith, inside_told (rw e at followed_keeps), taken_in w')
 
 -- A card and a word of bytes, the card in good standing.
 pub record Asked (card word : List ℕ) : Type 0 where
@@ -190,7 +181,6 @@ record LoadedAt (w : Work) (l : Loading) (start : ℕ) (w₁ : Work) : Type 0 wh
   taken_is : w₁.places ≡ length store
   room_is : w₁.room.now ≡ laid store w.room.now
   kept : Kept (space_of w) (store_of w) store
-  inside : root places < length store
 
 loaded_followed : {w : Work} {l : Loading} {start : ℕ} {w₁ : Work} (n : LoadedAt w l start w₁) → w₁.budget ≡ w.budget → (word : List ℕ)
     → follow_loaded (space_of w) word w.budget l ≡ judged w.budget (following_in w₁ word start)
@@ -220,23 +210,11 @@ module _ (w : Work) {card word : List ℕ} (a : Asked card word) where
   pub outcome_kept : Kept (space_of w) (store_of w) (outcome_in w card word).store
   outcome_kept = loaded_kept loading_law
 
--- The card finds no room, and so the outcome is that refusal.
-pub judges_full : {w : Work} (card word : List ℕ) {answer : Result ℕ Refusal} {w₁ : Work} → Enters w (loading_in w card) answer w₁
-    → {refusal : Refusal} → answer ≡ Err refusal → Judges w (outcome_in w card word) (Err refusal) w₁
-judges_full {w} card word {answer} {w₁} n {refusal} e = go (loading_in w card) n.answers n.holds.taken n.holds.leaves
-  where
-    go : (l : Loading) → answer ≡ entering_answer l → w₁.places ≡ length (after_loading l) → w₁.room.now ≡ laid (after_loading l) w.room.now
-        → Judges w (follow_loaded (space_of w) word w.budget l) (Err refusal) w₁
-    go (loaded places store) i t r = absurd (not_both i e)
-    go (no_room store) i t r =
-        let no_place : refusal ≡ NoFreePlace = cc in
-        let none : w.budget - w₁.budget ≡ 0 = omega (arith, n.unspent) in
-        record { tells = rw (no_place, t, none) refl; leaves = r }
-
 -- The card was entered, and the code told its root's place.
 pub record Entered (w : Work) (card word : List ℕ) (start : ℕ) (w₁ : Work) : Type 0 where
   pub asked : Asked card word
   pub enters : Enters w (loading_in w card) (Ok start) w₁
+  pub inside : start < w₁.places
 
 module _ {w : Work} {card word : List ℕ} {start : ℕ} {w₁ : Work} (n : Entered w card word start w₁) where
   stands : LoadedAt w (loading_in w card) start w₁
@@ -254,25 +232,21 @@ module _ {w : Work} {card word : List ℕ} {start : ℕ} {w₁ : Work} (n : Ente
             taken_is = t;
             room_is = r;
             kept = h.kept;
-            inside = (card_loaded card n.asked.good h).inside;
           }
       go (was_full h) i t r = absurd (not_both refl i)
-
-  pub root_inside : start < w₁.places
-  root_inside = let i = stands.inside in omega (arith, stands.start_is, stands.taken_is)
 
   -- The word was followed from the root.
   module _ {told : Result ℕ Refusal} {w₂ : Work} (c : Comes w₁ (following_in w₁ word start) told w₂) where
     room_left : w₂.room.now ≡ laid (store_of w₂) w.room.now
     room_left =
-        let kept = kept_told told w₂.budget (followed_keeps root_inside n.asked.letters c) in
+        let kept = kept_told told w₂.budget (followed_keeps n.inside n.asked.letters c) in
         let longer : length stands.store ≤ length (store_of w₂) =
-                omega (arith, grows_length kept.grows, taken_in w₁, stands.taken_is)
+        omega (arith, grows_length kept.grows, taken_in w₁, stands.taken_is)
         in
         c.leaves ∙ ap (laid (store_of w₂)) stands.room_is ∙ laid_laid stands.store (store_of w₂) w.room.now longer
 
     pub all_spent : w₂.budget ≤ w.budget
-    all_spent = omega (arith, followed_spent root_inside n.asked.letters c, n.enters.unspent)
+    all_spent = omega (arith, followed_spent n.inside n.asked.letters c, n.enters.unspent)
 
     outcome_told : {answer : Result ℕ Refusal} → told ≡ answer
         → outcome_in w card word ≡ judged w.budget (deriving_told answer (store_of w₂) w₂.budget)
@@ -285,10 +259,7 @@ module _ {w : Work} {card word : List ℕ} {start : ℕ} {w₁ : Work} (n : Ente
     pub judges_stopped : {refusal : Refusal} → told ≡ Err refusal → Judges w (outcome_in w card word) (Err refusal) w₂
     judges_stopped f = rw (outcome_told f) (record { tells = rw (taken_in w₂) refl; leaves = room_left })
 
-    -- A place was reached: its mark can be read, and says the answer.
-    module _ {last : ℕ} (f : told ≡ Ok last) where
-      pub last_inside : last < w₂.places
-      last_inside = followed_inside root_inside n.asked.letters c f
-
-      pub judges_mark : {mark : Bool} → mark ≡ marked (child (store_of w₂) last) → Judges w (outcome_in w card word) (Ok mark) w₂
-      judges_mark m = rw (outcome_told f) (record { tells = rw (m, taken_in w₂) refl; leaves = room_left })
+    -- A place was reached, and its mark says the answer.
+    pub judges_mark : {last : ℕ} → told ≡ Ok last → {mark : Bool} → mark ≡ marked (child (store_of w₂) last)
+        → Judges w (outcome_in w card word) (Ok mark) w₂
+    judges_mark f m = rw (outcome_told f) (record { tells = rw (m, taken_in w₂) refl; leaves = room_left })

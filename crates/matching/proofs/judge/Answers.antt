@@ -2,7 +2,7 @@
 -- place reached in the store that the room then holds.
 use Rattle.std.proofs.lemmas.Result.{err_from_is_err_and}
 use Rattle.language.proofs.Laws.Words.{bytes_all}
-use Rattle.matching.proofs.Laws.Rooms.{Entered, root_inside, all_spent, judges_stopped, last_inside, judges_mark}
+use Rattle.matching.proofs.Laws.Rooms.{Entered, all_spent, judges_stopped, judges_mark}
 use Rattle.matching.proofs.judge.Goals as goal
 use Rattle.matching.proofs.judge.Goals.{In_ok-root}
 
@@ -11,15 +11,13 @@ entered : (c : In_ok-root) → Entered c.args.work.now c.args.card.now c.args.wo
 entered c =
     record {
       asked = record {
-            cards = bytes_all c.args.card.now (λ i. (c.shared_slice_known-1.given i).fits);
-            letters = bytes_all c.args.word.now (λ i. (c.shared_slice_known-2-1.given i).fits);
-            good = c.requires;
-          };
+        cards = bytes_all c.args.card.now (λ i. (c.type_inv.card i).fits);
+        letters = bytes_all c.args.word.now (λ i. (c.type_inv.word i).fits);
+        good = c.requires;
+      };
       enters = c.in_ok-root.ensures.enters;
+      inside = c.in_ok-root.ensures.inside;
     }
-
-pub follow-requires : goal.follow-requires
-follow-requires c = root_inside (entered (goal.at.follow-requires c).In_ok-root)
 
 pub returns-in_err-last-clause-spent : goal.returns-in_err-last-clause-spent
 returns-in_err-last-clause-spent c =
@@ -30,9 +28,6 @@ returns-in_err-last-clause-judges c =
     let told = err_from_is_err_and c.from_residual-in_err-last.result c.from_residual-in_err-last.ensures.1 in
     rw (told.1, told.2)
     (judges_stopped (entered (goal.at.returns-in_err-last-clause-judges c).In_ok-root) c.follow.ensures.comes c.in_err-last.was)
-
-pub has_mark-requires : goal.has_mark-requires
-has_mark-requires c = last_inside (entered (goal.at.has_mark-requires c).In_ok-root) c.follow.ensures.comes c.in_ok-last.was
 
 pub returns-clause-spent : goal.returns-clause-spent
 returns-clause-spent c = all_spent (entered (goal.at.returns-clause-spent c).In_ok-root) c.follow.ensures.comes

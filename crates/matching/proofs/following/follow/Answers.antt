@@ -20,6 +20,7 @@ loop-letter-preserved c =
     let l = c.loop-letter in
     when_derived l.invariant (omega arith) (omega arith) c.step.ensures.comes c.step.ensures.same_room
     c.in_ok-here.was
+    c.in_ok-here.ensures.inside
 
 pub returns-clause-comes : goal.returns-clause-comes
 returns-clause-comes c = at_last c.loop-letter.invariant (omega arith)
