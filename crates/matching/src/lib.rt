@@ -10,7 +10,8 @@ ghost use Rattle.cards.specs.Mark.{marked};
 ghost use Rattle.store.specs.Work.{store_of, space_of};
 ghost use Rattle.loading.specs.Loading.{load};
 ghost use Rattle.matching.specs.Fits.{follow_loaded};
-ghost use Rattle.matching.specs.Promise.{Fits, Judges};
+ghost use Rattle.matching.specs.Promise.{Fits};
+ghost use Rattle.matching.specs.Told.{Judges};
 
 use crate::following::follow;
 use crate::refusing::standing;

@@ -25,7 +25,8 @@ use Rattle.loading.specs.Told.{Begun}
 use Rattle.loading.proofs.Laws.FreshRoom.{length_fresh}
 use Rattle.matching.specs.Refusals.{standing_of}
 use Rattle.matching.specs.Fits.{Outcome, fits_in, fits_standing, fits_outcome}
-use Rattle.matching.specs.Promise.{Fits, judged_told, Judges}
+use Rattle.matching.specs.Promise.{Fits}
+use Rattle.matching.specs.Told.{judged_told, Judges}
 use Rattle.matching.proofs.Laws.Refusals.{Unrefused, unrefused}
 use Rattle.matching.proofs.Laws.Fits.{fits_true}
 use Rattle.matching.proofs.Laws.Rooms.{Asked, outcome_in, outcome_kept}

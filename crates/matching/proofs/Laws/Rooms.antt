@@ -29,7 +29,7 @@ use Rattle.derivative.specs.Told.{deriving_told, Comes}
 use Rattle.derivative.proofs.Laws.Derivative.{derive_law}
 use Rattle.derivative.proofs.Laws.Rooms.{Keeps, derives, stops, step_keeps, in_store}
 use Rattle.matching.specs.Fits.{Outcome, follow, judged, follow_loaded}
-use Rattle.matching.specs.Promise.{Judges}
+use Rattle.matching.specs.Told.{Judges}
 use Rattle.matching.proofs.Laws.Follow.{left_of, follow_law, follow_visits}
 
 -- What following a word from a place of the store comes to.
