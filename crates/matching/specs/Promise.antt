@@ -6,7 +6,7 @@ use Rattle.answers.specs.Matching.{yes, no, Told, told}
 use Rattle.language.specs.Language.{language}
 use Rattle.cards.specs.Meaning.{card_pattern}
 use Rattle.store.specs.Room.{laid}
-use Rattle.matching.specs.Fits.{Outcome, fits_outcome}
+use Rattle.matching.specs.Fits.{fits_outcome}
 
 -- What is told is true: yes of words in the card's language alone, no of words not in it.
 pub record TrueOf (card word : List ℕ) (t : Told) : Type 0 where
@@ -18,8 +18,3 @@ pub record Fits (card word room : List ℕ) (budget : ℕ) (answer : Match) (roo
   pub tells : told answer ≡ (fits_outcome card word (length room) budget).tells
   pub leaves : room' ≡ laid (fits_outcome card word (length room) budget).store room
   pub means : TrueOf card word (told answer)
-
--- The answer tells an outcome, and the room holds its store.
-pub record Judges (room : List ℕ) (o : Outcome) (answer : Match) (room' : List ℕ) : Type 0 where
-  pub tells : told answer ≡ o.tells
-  pub leaves : room' ≡ laid o.store room

@@ -1,45 +1,34 @@
 // Following a word from a place: one step for each byte.
-ghost use Rattle.std.specs.Prelude.{◌<◌};
-ghost use Rattle.store.specs.Room.{store_in, places_of};
-ghost use Rattle.store.specs.Good.{GoodStore};
+ghost use Rattle.std.specs.Prelude.{◌<◌, ◌≡◌, IfOk};
+ghost use Rattle.store.specs.Work.{store_of, space_of};
 ghost use Rattle.derivative.specs.Derivative.{derive};
 ghost use Rattle.derivative.specs.Told.{Comes};
 ghost use Rattle.matching.specs.Fits.{follow};
 
-use derivative::{Derived, derive};
+use derivative::derive;
+use refusals::refusal::Refusal;
+use store::work::Work;
 
 // One step: the derivative of a place by one byte.
-pub fn step(room: &mut [u8], places: usize, place: usize, letter: u8, budget: u32) -> Derived
-    requires good_store { GoodStore room.old places }
-    requires place_lt_places { place < places }
-    ensures { Comes room.old (derive (places_of room.old) letter place (store_in room.old places) budget) result room.new }
+pub fn step(work: &mut Work<'_>, place: usize, letter: u8) -> Result<usize, Refusal>
+    requires { place < work.old.places }
+    ensures same_room { work.new.room.ghost_name ≡ work.old.room.ghost_name }
+    ensures comes { Comes work.old (derive (space_of work.old) letter place (store_of work.old) work.old.budget) result work.new }
+    ensures inside { IfOk result (λ next. next < work.new.places) }
 {
-    derive(room, places, place, letter, budget)
+    derive(work, place, letter)
 }
 
 // A step for each byte of the word.
-pub fn follow(room: &mut [u8], places: usize, place: usize, word: &[u8], budget: u32) -> Derived
-    requires good_store { GoodStore room.old places }
-    requires place_lt_places { place < places }
-    ensures { Comes room.old (follow (places_of room.old) word.now place (store_in room.old places) budget) result room.new }
+pub fn follow(work: &mut Work<'_>, place: usize, word: &[u8]) -> Result<usize, Refusal>
+    requires { place < work.old.places }
+    ensures same_room { work.new.room.ghost_name ≡ work.old.room.ghost_name }
+    ensures comes { Comes work.old (follow (space_of work.old) word.now place (store_of work.old) work.old.budget) result work.new }
+    ensures inside { IfOk result (λ last. last < work.new.places) }
 {
     let mut here = place;
-    let mut taken = places;
-    let mut left = budget;
-    let mut at = 0;
-    while at < word.len() {
-        let stepped = step(room, taken, here, word[at], left);
-        match stepped {
-            Derived::At(now_left, next, now_taken) => {
-                here = next;
-                taken = now_taken;
-                left = now_left;
-            }
-            Derived::Stopped(number, now_taken, now_left) => {
-                return Derived::Stopped(number, now_taken, now_left);
-            }
-        }
-        at += 1;
+    for letter in word {
+        here = step(work, here, *letter)?;
     }
-    Derived::At(left, here, taken)
+    Ok(here)
 }

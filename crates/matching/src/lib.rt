@@ -2,21 +2,25 @@
 // The definitions that its promise cites stand in specs/; specs/Lib.antt lists them.
 #![tactic(auto)]
 
-ghost use Rattle.std.specs.Prelude.{◌<◌};
-ghost use Rattle.store.specs.Room.{store_in, places_of};
-ghost use Rattle.store.specs.Good.{GoodStore};
-ghost use Rattle.matching.specs.Fits.{follow, judged};
-ghost use Rattle.matching.specs.Promise.{Fits, Judges};
+ghost use Rattle.std.specs.Prelude.{◌<◌, ◌≡◌, ◌≤◌};
+ghost use Rattle.refusals.specs.Order.{Good};
+ghost use Rattle.records.specs.Record.{records, child};
+ghost use Rattle.cards.specs.Examine.{pattern_card};
+ghost use Rattle.cards.specs.Mark.{marked};
+ghost use Rattle.store.specs.Work.{store_of, space_of};
+ghost use Rattle.loading.specs.Loading.{load};
+ghost use Rattle.matching.specs.Fits.{follow_loaded};
+ghost use Rattle.matching.specs.Promise.{Fits};
+ghost use Rattle.matching.specs.Told.{Judges};
 
 use crate::following::follow;
 use crate::refusing::standing;
 use answers::Match;
-use derivative::Derived;
-use loading::entering::{Entered, enter};
-use loading::fresh::fresh;
-use refusals::Standing;
-use refusals::numbers::NO_FREE_PLACE;
+use loading::beginning::begin;
+use loading::entering::enter;
+use refusals::refusal::Refusal;
 use store::interning::marked_at;
+use store::work::Work;
 
 pub mod following;
 pub mod refusing;
@@ -25,33 +29,35 @@ pub mod refusing;
 pub fn fits(card: &[u8], word: &[u8], room: &mut [u8], budget: u32) -> Match
     ensures { Fits card.now word.now room.old budget result room.new }
 {
-    let found = standing(card, word.len(), room.len());
-    if let Standing::Refused(number) = found {
-        return Match::Refused(number, 0, 0);
+    if let Err(refusal) = standing(card, word.len(), room.len()) {
+        return Match::Refused(refusal.number(), 0, 0);
     }
-    let places = fresh(room);
-    let entered = enter(room, places, card);
-    match entered {
-        Entered::At(place, taken) => judge(room, taken, place, word, budget),
-        Entered::Full(taken) => Match::Refused(NO_FREE_PLACE, taken, 0),
+    let mut work = begin(room, budget);
+    let judged = judge(&mut work, card, word);
+    let visits = budget - work.budget;
+    match judged {
+        Ok(true) => Match::Yes(work.places, visits),
+        Ok(false) => Match::No(work.places, visits),
+        Err(refusal) => Match::Refused(refusal.number(), work.places, visits),
     }
 }
 
-// Follows the word from a place, and reads the last mark.
-fn judge(room: &mut [u8], places: usize, place: usize, word: &[u8], budget: u32) -> Match
-    requires good_store { GoodStore room.old places }
-    requires place_lt_places { place < places }
-    ensures { Judges room.old (judged budget (follow (places_of room.old) word.now place (store_in room.old places) budget)) result room.new }
+// Enters the card, follows the word from its root, and reads the last mark.
+fn judge(work: &mut Work<'_>, card: &[u8], word: &[u8]) -> Result<bool, Refusal>
+    requires { pattern_card card.now ≡ Good }
+    ensures same_room { work.new.room.ghost_name ≡ work.old.room.ghost_name }
+    ensures spent { work.new.budget ≤ work.old.budget }
+    ensures judges { Judges work.old (follow_loaded (space_of work.old) word.now work.old.budget (load (space_of work.old) (store_of work.old) (records card.now))) result work.new }
 {
-    let end = follow(room, places, place, word, budget);
-    match end {
-        Derived::At(left, last, taken) => {
-            if marked_at(room, taken, last) {
-                Match::Yes(taken, budget - left)
-            } else {
-                Match::No(taken, budget - left)
-            }
-        }
-        Derived::Stopped(number, taken, left) => Match::Refused(number, taken, budget - left),
-    }
+    let root = enter(work, card)?;
+    let last = follow(work, root, word)?;
+    Ok(has_mark(work, last))
+}
+
+// What the mark of the record at a place says.
+fn has_mark(work: &Work<'_>, place: usize) -> bool
+    requires { place < work.now.places }
+    ensures { result ≡ marked (child (store_of work.now) place) }
+{
+    marked_at(work.room, work.places, place)
 }

@@ -1,26 +1,23 @@
 // The refusals of matching that need no work: the card's 1 to 3, then 4, then 5.
 ghost use Rattle.std.specs.Prelude.{◌≡◌};
+ghost use Rattle.refusals.specs.Told.{standing_told};
 ghost use Rattle.matching.specs.Refusals.{standing_of};
 
 use cards::examine::examine_pattern;
-use refusals::Standing;
 use refusals::limits::MOST_WORD;
-use refusals::numbers::{LONG_WORD, WORK_ROOM_SIZE};
+use refusals::refusal::Refusal;
 use store::room::wrong_room;
 
 // The first refusal, of a card, a word of so many bytes and a work room of so many.
-pub fn standing(card: &[u8], word: usize, room: usize) -> Standing
-    ensures { result ≡ standing_of card.now word room }
+pub fn standing(card: &[u8], word: usize, room: usize) -> Result<(), Refusal>
+    ensures { standing_told result ≡ standing_of card.now word room }
 {
-    let found = examine_pattern(card);
-    if let Standing::Refused(number) = found {
-        return Standing::Refused(number);
-    }
+    examine_pattern(card)?;
     if MOST_WORD < word {
-        return Standing::Refused(LONG_WORD);
+        return Err(Refusal::LongWord);
     }
     if wrong_room(room) {
-        return Standing::Refused(WORK_ROOM_SIZE);
+        return Err(Refusal::WorkRoomSize);
     }
-    Standing::Good
+    Ok(())
 }

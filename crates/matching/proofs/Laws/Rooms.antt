@@ -1,222 +1,265 @@
--- Matching in a room: what the code answers of following and of judging, with the room that it leaves, is what the next step goes on
--- from, since the store that stands in the room is good again.
-use Rattle.std.specs.Prelude.{ℕ, suc, ◌+◌, ◌-◌, ◌<◌, ◌≤◌, Bool, true, false, cond, ◌≡◌, refl, length, get_or}
+-- Matching in a work room: what the code answers of following and of judging, with what it leaves, is what the next step goes on from, since the
+-- store that stands in the room is good again.
+use Rattle.std.specs.Prelude.{ℕ, suc, ◌+◌, ◌<◌, ◌≤◌, Bool, List, [], ◌≡◌, refl, length, get_or}
 use Rattle.std.proofs.Common.{add-one, arith, sym, ◌∙◌, ap₂, drop-cons}
-use mathlib.Core.List.{List, []}
 use Rattle.std.proofs.Math.Path.{ap}
 use Rattle.std.proofs.Math.ListN.{drop, drop_of_length-le}
-use Rattle.answers.specs.declared.Match.TheVariants.{Yes, No, Refused}
-use Rattle.answers.specs.Matching.{yes, no, told}
+use Rattle.std.specs.declared.result.Result.{Result}
+use Rattle.std.specs.declared.result.Result.TheVariants.{Ok, Err}
+use Rattle.refusals.specs.declared.refusal.Refusal.{Refusal}
 use Rattle.language.specs.Word.{Bytes}
 use Rattle.records.specs.declared.record.Record.{Record}
-use Rattle.records.specs.Record.{child}
+use Rattle.records.specs.Record.{records, child}
+use Rattle.refusals.specs.Order.{Good}
+use Rattle.cards.specs.Examine.{pattern_card}
 use Rattle.cards.specs.Mark.{marked}
-use Rattle.store.specs.Room.{store_in, places_of, laid}
-use Rattle.store.specs.Good.{GoodStore}
+use Rattle.store.specs.declared.work.Work.{Work}
+use Rattle.store.specs.Room.{places_of, store_in, laid}
+use Rattle.store.specs.Work.{store_of, space_of}
 use Rattle.store.proofs.Laws.Room.{laid_same, laid_laid}
-use Rattle.store.specs.Laws.Wall.{Kept}
+use Rattle.store.specs.Laws.Wall.{Ready, Kept}
 use Rattle.store.proofs.Laws.Wall.{grows_length, kept_refl, kept_trans}
-use Rattle.store.proofs.Laws.GoodRoom.{room_ready, length_store_in, length_after, places_after, store_after, good_after}
-use Rattle.derivative.proofs.Laws.Told.{Derived}
-use Rattle.derivative.proofs.Laws.Told.{At, Stopped}
-use Rattle.derivative.specs.Derivative.{Deriving, derived, stopped, and_then, derive}
-use Rattle.derivative.proofs.Laws.Told.{told_deriving, after_deriving, ComesRoom}
+use Rattle.store.proofs.Laws.GoodRoom.{room_ready, length_store_in, places_after, store_after}
+use Rattle.loading.specs.Loading.{root, Loading, loaded, load, after_loading}
+use Rattle.loading.specs.Told.{Enters, entering_answer}
+use Rattle.loading.proofs.Laws.Loading.{LoadLaw, all_loaded, was_full, load_law}
+use Rattle.loading.proofs.Laws.Cards.{good_card, card_loaded}
+use Rattle.derivative.specs.Derivative.{Deriving, and_then, derive}
+use Rattle.derivative.specs.Told.{deriving_told, Comes}
 use Rattle.derivative.proofs.Laws.Derivative.{derive_law}
-use Rattle.derivative.proofs.Laws.Rooms.{Keeps, derives, stops, step_keeps, keeps_longer, not_both, Stands as Stood, stands, stopped_then, Next, in_store, next, store_then}
-use Rattle.matching.specs.Fits.{follow, judged}
-use Rattle.matching.specs.Promise.{Judges}
+use Rattle.derivative.proofs.Laws.Rooms.{Keeps, derives, stops, step_keeps, in_store}
+use Rattle.matching.specs.Fits.{Outcome, follow, judged, follow_loaded}
+use Rattle.matching.specs.Told.{Judges}
 use Rattle.matching.proofs.Laws.Follow.{left_of, follow_law, follow_visits}
 
--- What following a word from a place of the store of a room comes to.
-abbrev pub following_in : List ℕ → ℕ → ℕ → List ℕ → ℕ → Deriving
-following_in room places place word budget = follow (places_of room) word place (store_in room places) budget
+-- What following a word from a place of the store comes to.
+abbrev pub following_in : Work → List ℕ → ℕ → Deriving
+following_in w word place = follow (space_of w) word place (store_of w) w.budget
 
--- The first `at` letters of the word are followed from `room₀`: `store` stands in `room`, and `here` is reached.
-pub record Underway (room₀ : List ℕ) (places place : ℕ) (word : List ℕ) (budget : ℕ) (room : List ℕ) (here taken left at : ℕ) : Type 0 where
-  pub good : GoodStore room₀ places
-  pub passed : at ≤ length word
-  pub store : List Record
-  pub room_is : room ≡ laid store room₀
-  pub taken_is : taken ≡ length store
-  pub kept : Kept (places_of room₀) (store_in room₀ places) store
-  pub inside : here < length store
-  pub rest : following_in room₀ places place word budget ≡ follow (places_of room₀) (drop at word) here store left
+-- What a derivation keeps, by the answer that tells it.
+
+kept_told : {cap : ℕ} {store store' : List Record} (answer : Result ℕ Refusal) (left : ℕ) → Keeps cap store (deriving_told answer store' left)
+    → Kept cap store store'
+kept_told (Ok place) left (derives k l) = k
+kept_told (Err refusal) left (stops k) = k
+
+left_told : (answer : Result ℕ Refusal) (store : List Record) (left : ℕ) → left_of (deriving_told answer store left) ≡ left
+left_told (Ok place) store left = refl
+left_told (Err refusal) store left = refl
+
+-- The store of a work room, and the places then taken.
+work_ready : (w : Work) → Ready (space_of w) (store_of w)
+work_ready w = room_ready w.good
+
+taken_in : (w : Work) → length (store_of w) ≡ w.places
+taken_in w = length_store_in w.room.now w.places
+
+-- The first `at` letters of the word are followed from the work `w₀`: `here` is reached, from where the rest is followed.
+pub record Underway (w₀ : Work) (place : ℕ) (word : List ℕ) (w : Work) (here at : ℕ) : Type 0 where
+  pub same_room : w.room.ghost_name ≡ w₀.room.ghost_name
+  pub room_is : w.room.now ≡ laid (store_of w) w₀.room.now
+  pub kept : Kept (space_of w₀) (store_of w₀) (store_of w)
+  pub inside : here < w.places
+  pub rest : following_in w₀ word place ≡ follow (space_of w₀) (drop at word) here (store_of w) w.budget
 
 -- At first none is followed.
-pub at_first : (room : List ℕ) (places place : ℕ) (word : List ℕ) (budget : ℕ) → GoodStore room places → place < places
-    → Underway room places place word budget room place places budget 0
-at_first room places place word budget g l =
+pub at_first : (w : Work) {place : ℕ} (word : List ℕ) → place < w.places → Underway w place word w place 0
+at_first w word l =
     record {
-      good = g;
-      passed = omega arith;
-      store = store_in room places;
-      room_is = sym (laid_same places room g.fits g.bytes);
-      taken_is = sym (length_store_in room places);
-      kept = kept_refl (room_ready g);
-      inside = in_store room l;
+      same_room = refl;
+      room_is = sym (laid_same w.places w.room.now w.good.fits w.good.bytes);
+      kept = kept_refl (work_ready w);
+      inside = l;
       rest = refl;
     }
 
--- A stop keeps what the step that stopped kept.
-keeps_stopped : {cap : ℕ} {store : List Record} {room : List ℕ} {d : Deriving} {answer : Derived} {room' : List ℕ} → Keeps cap store d
-    → ComesRoom room d answer room' → {number taken left : ℕ} → answer ≡ Stopped number taken left
-    → (then : ℕ → List Record → ℕ → Deriving) → Keeps cap store (and_then d then)
-keeps_stopped (derives k l) c e then = absurd (not_both e c.answers)
-keeps_stopped (stops k) c e then = stops k
-
-module _ {room₀ : List ℕ} {places place : ℕ} {word : List ℕ} {budget : ℕ} {room : List ℕ} {here taken left at : ℕ}
-    (u : Underway room₀ places place word budget room here taken left at) where
-  abbrev cap : ℕ
-  cap = places_of room₀
-
-  abbrev store : List Record
-  store = u.store
-
-  pub room_as_long : length room ≡ length room₀
-  room_as_long = ap length u.room_is ∙ length_after room₀ u.kept
-
-  pub good_now : GoodStore room taken
-  good_now = rw (u.room_is, u.taken_is) (good_after room₀ u.kept u.good)
-
-  pub here_taken : here < taken
-  here_taken = let i = u.inside in omega (arith, u.taken_is)
-
-  places_now : places_of room ≡ cap
-  places_now = ap places_of u.room_is ∙ places_after room₀ u.kept
-
-  store_now : store_in room taken ≡ store
-  store_now = ap₂ store_in u.room_is u.taken_is ∙ store_after room₀ u.kept
+module _ {w₀ : Work} {place : ℕ} {word : List ℕ} {w : Work} {here at : ℕ} (u : Underway w₀ place word w here at) where
+  same_space : space_of w ≡ space_of w₀
+  same_space = ap places_of u.room_is ∙ places_after w₀.room.now u.kept
 
   -- Where no letter is left, the place reached is the answer.
-  pub at_last : length word ≤ at → ComesRoom room₀ (following_in room₀ places place word budget) (At left here taken) room
+  pub at_last : length word ≤ at → Comes w₀ (following_in w₀ word place) (Ok here) w
   unfolding follow
   at_last l =
       let e : drop at word ≡ [] = drop_of_length-le word {i = at} l in
-      let f : following_in room₀ places place word budget ≡ derived here store left = u.rest ∙ ap (λ (w : List ℕ). follow cap w here store left) e in
-      rw f (record { answers = ap (λ (n : ℕ). At left here n) u.taken_is; leaves = u.room_is })
+      record {
+        is = u.rest ∙ ap (λ (rest : List ℕ). follow (space_of w₀) rest here (store_of w) w.budget) e;
+        leaves = u.room_is;
+      }
 
   -- One step, by the letter numbered `at`.
-  module _ (l : at < length word) (byte : get_or word at 0 < 256) {stepped : Derived} {room₁ : List ℕ}
-      (c : ComesRoom room (derive (places_of room) (get_or word at 0) here (store_in room taken) left) stepped room₁) where
+  module _ (l : at < length word) (byte : get_or word at 0 < 256) {answer : Result ℕ Refusal} {w₁ : Work}
+      (c : Comes w (derive (space_of w) (get_or word at 0) here (store_of w) w.budget) answer w₁) where
     abbrev first : Deriving
-    first = derive cap (get_or word at 0) here store left
+    first = derive (space_of w₀) (get_or word at 0) here (store_of w) w.budget
 
     abbrev onward : ℕ → List Record → ℕ → Deriving
-    onward p s b = follow cap (drop (suc at) word) p s b
+    onward p s b = follow (space_of w₀) (drop (suc at) word) p s b
 
-    keeps : Keeps cap store first
-    keeps = step_keeps (derive_law (get_or word at 0) byte cap here store left u.inside u.kept.ready)
+    first_told : first ≡ deriving_told answer (store_of w₁) w₁.budget
+    first_told = rw same_space at c.is
 
-    comes : ComesRoom room first stepped room₁
-    comes = rw (places_now, store_now) at c
+    keeps : Keeps (space_of w₀) (store_of w) (deriving_told answer (store_of w₁) w₁.budget)
+    keeps =
+        rw first_told at
+        (step_keeps
+        (derive_law (get_or word at 0) byte (space_of w₀) here (store_of w) w.budget (in_store w.room.now u.inside) u.kept.ready))
 
-    goes_on : following_in room₀ places place word budget ≡ and_then first onward
+    kept_on : Kept (space_of w₀) (store_of w) (store_of w₁)
+    kept_on = kept_told answer w₁.budget keeps
+
+    room_on : w₁.room.now ≡ laid (store_of w₁) w₀.room.now
+    room_on =
+        c.leaves ∙ ap (laid (store_of w₁)) u.room_is ∙ laid_laid (store_of w) (store_of w₁) w₀.room.now (grows_length kept_on.grows)
+
+    goes_on : following_in w₀ word place ≡ and_then (deriving_told answer (store_of w₁) w₁.budget) onward
     unfolding follow
-    goes_on = u.rest ∙ ap (λ (w : List ℕ). follow cap w here store left) (drop-cons word at 0 l)
+    goes_on =
+        u.rest
+        ∙ ap (λ (rest : List ℕ). follow (space_of w₀) rest here (store_of w) w.budget) (drop-cons word at 0 l)
+        ∙ ap (λ (d : Deriving). and_then d onward) first_told
 
-    pub when_stopped : {number taken' left' : ℕ} → stepped ≡ Stopped number taken' left'
-        → ComesRoom room₀ (following_in room₀ places place word budget) (Stopped number taken' left') room₁
+    -- It stopped, and so does the whole.
+    pub when_stopped : {refusal : Refusal} → answer ≡ Err refusal → Comes w₀ (following_in w₀ word place) (Err refusal) w₁
     when_stopped e =
-        let s = stopped_then comes e onward in
-        let longer = keeps_longer (keeps_stopped keeps comes e onward) in
-        rw goes_on
-        (record {
-          answers = s.answers;
-          leaves =
-              s.leaves
-              ∙ ap (laid (after_deriving (and_then first onward))) u.room_is
-              ∙ laid_laid store (after_deriving (and_then first onward)) room₀ longer;
-        })
-
-    stepped_on : {next taken' left' : ℕ} → Stood room taken first next taken' left' room₁
-        → Underway room₀ places place word budget room₁ next taken' left' (at + 1)
-    stepped_on s =
-        let k = rw (places_now, store_now) at s.kept in
         record {
-          good = u.good;
-          passed = omega arith;
-          store = s.store;
-          room_is = s.room_is ∙ ap (laid s.store) u.room_is ∙ laid_laid store s.store room₀ (grows_length k.grows);
-          taken_is = s.taken_is;
-          kept = kept_trans u.kept k;
-          inside = s.inside;
-          rest = rw add-one (goes_on ∙ ap (λ (d : Deriving). and_then d onward) s.is);
+          is = goes_on ∙ ap (λ (r : Result ℕ Refusal). and_then (deriving_told r (store_of w₁) w₁.budget) onward) e;
+          leaves = room_on;
         }
 
-    pub when_derived : {next taken' left' : ℕ} → stepped ≡ At left' next taken'
-        → Underway room₀ places place word budget room₁ next taken' left' (at + 1)
-    when_derived e = stepped_on (stands {room = room} {places = taken} (rw (places_now, store_now) keeps) comes e)
+    -- A place was derived, from where the rest is followed.
+    pub when_derived : w₁.room.ghost_name ≡ w.room.ghost_name → {next : ℕ} → answer ≡ Ok next → next < w₁.places → Underway w₀ place word w₁ next (at + 1)
+    when_derived same {next} e inside =
+        record {
+          same_room = same ∙ u.same_room;
+          room_is = room_on;
+          kept = kept_trans u.kept kept_on;
+          inside = inside;
+          rest =
+              rw add-one
+              (goes_on ∙ ap (λ (r : Result ℕ Refusal). and_then (deriving_told r (store_of w₁) w₁.budget) onward) e);
+        }
 
--- What is told by a mark.
-
-yes_told : {mark : Bool} {taken n : ℕ} (visits : ℕ) → mark ≡ true → taken ≡ n
-    → told (Yes taken visits) ≡ record { says = cond mark yes no; places = n; visits = visits }
-yes_told visits e f = rw (e, f)
-
-no_told : {mark : Bool} {taken n : ℕ} (visits : ℕ) → mark ≡ false → taken ≡ n
-    → told (No taken visits) ≡ record { says = cond mark yes no; places = n; visits = visits }
-no_told visits e f = rw (e, f)
-
--- A word of bytes was followed from a place of the good store of a room.
-pub record Followed (room : List ℕ) (places place : ℕ) (word : List ℕ) (budget : ℕ) (end : Derived) (room₁ : List ℕ) : Type 0 where
-  pub good : GoodStore room places
-  pub inside : place < places
-  pub letters : Bytes word
-  pub comes : ComesRoom room (following_in room places place word budget) end room₁
-
--- What was followed, judged by its last place.
-module _ {room : List ℕ} {places place : ℕ} {word : List ℕ} {budget : ℕ} {end : Derived} {room₁ : List ℕ}
-    (w : Followed room places place word budget end room₁) where
-  abbrev whole : Deriving
-  whole = following_in room places place word budget
-
-  followed_keeps : Keeps (places_of room) (store_in room places) whole
+-- A word of bytes, followed from a place of the store.
+module _ {w : Work} {place : ℕ} (inside : place < w.places) {word : List ℕ} (letters : Bytes word)
+    {answer : Result ℕ Refusal} {w' : Work} (c : Comes w (following_in w word place) answer w') where
+  followed_keeps : Keeps (space_of w) (store_of w) (deriving_told answer (store_of w') w'.budget)
   followed_keeps =
-      step_keeps (follow_law w.letters (places_of room) place (store_in room places) budget (in_store room w.inside) (room_ready w.good))
+      rw c.is at
+      (step_keeps (follow_law letters (space_of w) place (store_of w) w.budget (in_store w.room.now inside) (work_ready w)))
 
-  affordable : left_of whole ≤ budget
-  affordable =
-      omega (arith, follow_visits w.letters (places_of room) place (store_in room places) budget (in_store room w.inside) (room_ready w.good))
+  followed_spent : w'.budget ≤ w.budget
+  followed_spent =
+      let left : left_of (following_in w word place) ≡ w'.budget =
+      ap left_of c.is ∙ left_told answer (store_of w') w'.budget
+      in
+      omega (arith, left, follow_visits letters (space_of w) place (store_of w) w.budget (in_store w.room.now inside) (work_ready w))
 
-  -- A place was reached: its mark can be read, and says the answer.
-  module _ {last taken left : ℕ} (e : end ≡ At left last taken) where
-    reached : Stood room places whole last taken left room₁
-    reached = stands followed_keeps w.comes e
+-- A card and a word of bytes, the card in good standing.
+pub record Asked (card word : List ℕ) : Type 0 where
+  pub cards : Bytes card
+  pub letters : Bytes word
+  pub good : pattern_card card ≡ Good
 
-    pub can_be_read : Next places room₁ last taken
-    can_be_read = next w.good reached
+-- What loading the card into the store comes to, and the outcome of following the word from there.
+abbrev pub loading_in : Work → List ℕ → Loading
+loading_in w card = load (space_of w) (store_of w) (records card)
 
-    pub reached_left : left ≤ budget
-    reached_left = rw reached.is at affordable
+abbrev pub outcome_in : Work → List ℕ → List ℕ → Outcome
+outcome_in w card word = follow_loaded (space_of w) word w.budget (loading_in w card)
 
-    mark_is : {mark says : Bool} → mark ≡ marked (child (store_in room₁ taken) last) → mark ≡ says → marked (child reached.store last) ≡ says
-    mark_is m t = sym (rw (store_then w.good reached) at m) ∙ t
+-- What the code told of entering is one thing.
+not_both : {answer : Result ℕ Refusal} {place : ℕ} {refusal : Refusal} → answer ≡ Ok place → answer ≡ Err refusal → ⊥
+not_both e f = let z : ◌≡◌ {A = ℕ} 0 1 = cc in omega arith
 
-    pub said_yes : {mark : Bool} → mark ≡ marked (child (store_in room₁ taken) last) → mark ≡ true
-        → Judges room (judged budget whole) (Yes taken (budget - left)) room₁
-    said_yes m t = rw reached.is (record { tells = yes_told (budget - left) (mark_is m t) reached.taken_is; leaves = reached.room_is })
+-- The card was loaded: `start` is its root's place, and `store` stands in the room.
+record LoadedAt (w : Work) (l : Loading) (start : ℕ) (w₁ : Work) : Type 0 where
+  places : List ℕ
+  store : List Record
+  is : l ≡ loaded places store
+  start_is : start ≡ root places
+  taken_is : w₁.places ≡ length store
+  room_is : w₁.room.now ≡ laid store w.room.now
+  kept : Kept (space_of w) (store_of w) store
 
-    pub said_no : {mark : Bool} → mark ≡ marked (child (store_in room₁ taken) last) → mark ≡ false
-        → Judges room (judged budget whole) (No taken (budget - left)) room₁
-    said_no m t = rw reached.is (record { tells = no_told (budget - left) (mark_is m t) reached.taken_is; leaves = reached.room_is })
+loaded_followed : {w : Work} {l : Loading} {start : ℕ} {w₁ : Work} (n : LoadedAt w l start w₁) → w₁.budget ≡ w.budget → (word : List ℕ)
+    → follow_loaded (space_of w) word w.budget l ≡ judged w.budget (following_in w₁ word start)
+loaded_followed {w} {w₁} n unspent word =
+    let space : space_of w₁ ≡ space_of w = ap places_of n.room_is ∙ places_after w.room.now n.kept in
+    let stood : store_of w₁ ≡ n.store = ap₂ store_in n.room_is n.taken_is ∙ store_after w.room.now n.kept in
+    ap (follow_loaded (space_of w) word w.budget) n.is ∙ rw (space, stood, n.start_is, unspent) refl
 
-  -- It stopped.
-  module _ {number taken left : ℕ} (e : end ≡ Stopped number taken left) where
-    pub stopped_left : left ≤ budget
-    stopped_left = go whole w.comes.answers affordable
-      where
-        go : (d : Deriving) → end ≡ told_deriving d → left_of d ≤ budget → left ≤ budget
-        go (derived p s b) f l = absurd (not_both e f)
-        go (stopped n s b) f l = let same : left ≡ b = cc in omega arith
+module _ (w : Work) {card word : List ℕ} (a : Asked card word) where
+  loading_law : LoadLaw (space_of w) (records card) (store_of w) [] (records card) (loading_in w card)
+  loading_law = load_law (space_of w) (records card) (good_card card a.cards a.good) (store_of w) (work_ready w)
 
-    pub said_refused : Judges room (judged budget whole) (Refused number taken (budget - left)) room₁
-    said_refused = go whole w.comes
-      where
-        go : (d : Deriving) → ComesRoom room d end room₁ → Judges room (judged budget d) (Refused number taken (budget - left)) room₁
-        go (derived p s b) k = absurd (not_both e k.answers)
-        go (stopped n s b) k =
-            let a = k.answers in
-            let i : number ≡ n = cc in
-            let j : taken ≡ length s = cc in
-            let m : left ≡ b = cc in
-            record { tells = rw (i, j, m); leaves = k.leaves }
+  -- The outcome's store grew from the one that stood.
+
+  judged_kept : {store : List Record} {d : Deriving} → Keeps (space_of w) store d → Kept (space_of w) store (judged w.budget d).store
+  judged_kept (derives k l) = k
+  judged_kept (stops k) = k
+
+  loaded_kept : {l : Loading} → LoadLaw (space_of w) (records card) (store_of w) [] (records card) l
+      → Kept (space_of w) (store_of w) (follow_loaded (space_of w) word w.budget l).store
+  loaded_kept (was_full h) = h.kept
+  loaded_kept (all_loaded {places' = places} {store' = store} h) =
+      kept_trans h.kept
+      (judged_kept
+      (step_keeps (follow_law a.letters (space_of w) (root places) store w.budget (card_loaded card a.good h).inside h.kept.ready)))
+
+  pub outcome_kept : Kept (space_of w) (store_of w) (outcome_in w card word).store
+  outcome_kept = loaded_kept loading_law
+
+-- The card was entered, and the code told its root's place.
+pub record Entered (w : Work) (card word : List ℕ) (start : ℕ) (w₁ : Work) : Type 0 where
+  pub asked : Asked card word
+  pub enters : Enters w (loading_in w card) (Ok start) w₁
+  pub inside : start < w₁.places
+
+module _ {w : Work} {card word : List ℕ} {start : ℕ} {w₁ : Work} (n : Entered w card word start w₁) where
+  stands : LoadedAt w (loading_in w card) start w₁
+  stands = go (loading_law w n.asked) n.enters.answers n.enters.holds.taken n.enters.holds.leaves
+    where
+      go : {l : Loading} → LoadLaw (space_of w) (records card) (store_of w) [] (records card) l
+          → Ok start ≡ entering_answer l → w₁.places ≡ length (after_loading l) → w₁.room.now ≡ laid (after_loading l) w.room.now
+          → LoadedAt w l start w₁
+      go (all_loaded {places' = places} {store' = store} h) i t r =
+          record {
+            places = places;
+            store = store;
+            is = refl;
+            start_is = cc;
+            taken_is = t;
+            room_is = r;
+            kept = h.kept;
+          }
+      go (was_full h) i t r = absurd (not_both refl i)
+
+  -- The word was followed from the root.
+  module _ {told : Result ℕ Refusal} {w₂ : Work} (c : Comes w₁ (following_in w₁ word start) told w₂) where
+    room_left : w₂.room.now ≡ laid (store_of w₂) w.room.now
+    room_left =
+        let kept = kept_told told w₂.budget (followed_keeps n.inside n.asked.letters c) in
+        let longer : length stands.store ≤ length (store_of w₂) =
+        omega (arith, grows_length kept.grows, taken_in w₁, stands.taken_is)
+        in
+        c.leaves ∙ ap (laid (store_of w₂)) stands.room_is ∙ laid_laid stands.store (store_of w₂) w.room.now longer
+
+    pub all_spent : w₂.budget ≤ w.budget
+    all_spent = omega (arith, followed_spent n.inside n.asked.letters c, n.enters.unspent)
+
+    outcome_told : {answer : Result ℕ Refusal} → told ≡ answer
+        → outcome_in w card word ≡ judged w.budget (deriving_told answer (store_of w₂) w₂.budget)
+    outcome_told f =
+        loaded_followed stands n.enters.unspent word
+        ∙ ap (judged w.budget) c.is
+        ∙ ap (λ (answer : Result ℕ Refusal). judged w.budget (deriving_told answer (store_of w₂) w₂.budget)) f
+
+    -- It stopped on the way.
+    pub judges_stopped : {refusal : Refusal} → told ≡ Err refusal → Judges w (outcome_in w card word) (Err refusal) w₂
+    judges_stopped f = rw (outcome_told f) (record { tells = rw (taken_in w₂) refl; leaves = room_left })
+
+    -- A place was reached, and its mark says the answer.
+    pub judges_mark : {last : ℕ} → told ≡ Ok last → {mark : Bool} → mark ≡ marked (child (store_of w₂) last)
+        → Judges w (outcome_in w card word) (Ok mark) w₂
+    judges_mark f m = rw (outcome_told f) (record { tells = rw (m, taken_in w₂) refl; leaves = room_left })

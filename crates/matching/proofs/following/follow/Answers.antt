@@ -1,43 +1,26 @@
--- `follow` answers as the definition does: with the letters before `at` followed, the store that stands in the room and the place
--- reached are those from which the definition follows the rest. The measure is the number of letters that are left.
-use native.Mathlib.Omega.{arith}
-use mathlib.Core.Path.{◌∙◌}
-use Rattle.matching.proofs.Laws.Rooms.{at_first, room_as_long, good_now, here_taken, at_last, when_stopped, when_derived}
+-- `follow` answers as the definition does: with the letters before this one followed, the store that stands in the room and the place reached are
+-- those from which the definition follows the rest.
+use Rattle.std.proofs.Common.{arith}
+use Rattle.std.proofs.lemmas.Result.{err_from_is_err_and}
+use Rattle.matching.proofs.Laws.Rooms.{at_first, at_last, when_stopped, when_derived}
 use Rattle.matching.proofs.following.follow.Goals as goal
 
-pub loop-at-init : goal.loop-at-init
-loop-at-init c =
-    let s = c in
-    at_first s.args.room.now s.args.places s.args.place s.args.word.now s.args.budget s.requires.good_store s.requires.place_lt_places
+pub loop-letter-init : goal.loop-letter-init
+loop-letter-init c = at_first c.args.work.now c.args.word.now c.requires
 
-pub step-stepped-requires : goal.step-stepped-requires
-step-stepped-requires c =
-    let u = c.loop-at.invariant in
-    record { good_store = good_now u; place_lt_places = here_taken u }
+pub returns-in_err-here-clause-comes : goal.returns-in_err-here-clause-comes
+returns-in_err-here-clause-comes c =
+    let l = c.loop-letter in
+    let told = err_from_is_err_and c.from_residual.result c.from_residual.ensures.1 in
+    rw (told.1, told.2)
+    (when_stopped l.invariant (omega arith) (omega arith) c.step.ensures.comes c.in_err-here.was)
 
-pub shape_of-room-in-Stopped : goal.shape_of-room-in-Stopped
-shape_of-room-in-Stopped c =
-    let l = c.loop-at in
-    c.room-1.given ∙ room_as_long l.invariant
+pub loop-letter-preserved : goal.loop-letter-preserved
+loop-letter-preserved c =
+    let l = c.loop-letter in
+    when_derived l.invariant (omega arith) (omega arith) c.step.ensures.comes c.step.ensures.same_room
+    c.in_ok-here.was
+    c.in_ok-here.ensures.inside
 
-pub returns-in-Stopped : goal.returns-in-Stopped
-returns-in-Stopped c =
-    let l = c.loop-at in
-    when_stopped l.invariant (omega arith)
-    (c.shared_slice_known-in-loop-at-1.given l.at).fits
-    c.step-stepped.ensures
-    c.in-Stopped.is
-
-pub loop-at-preserved : goal.loop-at-preserved
-loop-at-preserved c =
-    let l = c.loop-at in
-    when_derived l.invariant (omega arith)
-    (c.shared_slice_known-in-loop-at-1.given l.at).fits
-    c.step-stepped.ensures
-    c.in-At.is
-
-pub shape_of-room : goal.shape_of-room
-shape_of-room c = room_as_long c.loop-at.invariant
-
-pub returns : goal.returns
-returns c = at_last c.loop-at.invariant (omega arith)
+pub returns-clause-comes : goal.returns-clause-comes
+returns-clause-comes c = at_last c.loop-letter.invariant (omega arith)

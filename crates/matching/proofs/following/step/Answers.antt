@@ -1,8 +1,9 @@
 -- `step` derives at the depth that is enough for its place, as the definition of a derivative does.
-use Rattle.derivative.proofs.Laws.Both.{at_depth}
+use Rattle.std.specs.Prelude.{suc}
+use Rattle.std.proofs.Common.{arith}
+use Rattle.derivative.specs.Derivative.{derive}
 use Rattle.matching.proofs.following.step.Goals as goal
 
-pub returns : goal.returns
-returns c =
-    let a = c.args in
-    at_depth a.room.now a.places a.place a.letter a.budget c.derive.ensures
+pub returns-clause-comes : goal.returns-clause-comes
+unfolding derive
+returns-clause-comes c = c.derive.ensures.comes (suc c.args.place) (omega arith)

@@ -2,10 +2,11 @@
 use Prim.Native.Nat.{ℕ, ◌<◌, ◌≤◌}
 use mathlib.Core.Bool.{Bool, true, false}
 use mathlib.Core.List.{List}
-use mathlib.Core.Path.{◌≡◌, sym, ◌∙◌}
+use mathlib.Core.Path.{◌≡◌, sym, ◌∙◌, ap}
 use borrow.Author.Tests.{lt-ltb, le-ltb}
-use Rattle.refusals.specs.Order.{Standing}
-use Rattle.refusals.specs.Order.{Good, Refused}
+use Rattle.std.proofs.lemmas.Result.{err_from_is_err_and}
+use Rattle.refusals.specs.Order.{Standing, Good, Refused}
+use Rattle.refusals.specs.Told.{standing_told}
 use Rattle.refusals.specs.Numbers.{long_word, work_room_size}
 use Rattle.refusals.specs.Limits.{most_word}
 use Rattle.cards.specs.Examine.{pattern_card}
@@ -36,21 +37,21 @@ module _ (card : List ℕ) (word room : ℕ) {found : Standing} (is : found ≡ 
     unfolding standing_of
     told-good t w u = rw (good, le-ltb most_word word t, sym w ∙ u)
 
-pub returns-in-Refused : goal.returns-in-Refused
-returns-in-Refused c =
+pub returns-in_err-examine_pattern : goal.returns-in_err-examine_pattern
+returns-in_err-examine_pattern c =
     let a = c.args in
-    told-card a.card.now a.word a.room c.examine_pattern-found.ensures c.in-Refused.is
+    let told = err_from_is_err_and c.from_residual.result c.from_residual.ensures.1 in
+    rw (told.1, told.2) (told-card a.card.now a.word a.room c.examine_pattern.ensures (ap standing_told c.in_err-examine_pattern.was))
 
 pub returns-then-word-gt-MOST_WORD : goal.returns-then-word-gt-MOST_WORD
 returns-then-word-gt-MOST_WORD c =
     let a = c.args in
-    told-long a.card.now a.word a.room c.examine_pattern-found.ensures c.in_default.is c.if-word-gt-MOST_WORD.true
+    told-long a.card.now a.word a.room c.examine_pattern.ensures (ap standing_told c.in_ok-examine_pattern.was) c.if-word-gt-MOST_WORD.true
 
 pub returns-then-wrong_room : goal.returns-then-wrong_room
 returns-then-wrong_room c =
     let a = c.args in
-    told-room a.card.now a.word a.room c.examine_pattern-found.ensures
-    c.in_default.is
+    told-room a.card.now a.word a.room c.examine_pattern.ensures (ap standing_told c.in_ok-examine_pattern.was)
     c.if-word-gt-MOST_WORD.false
     c.wrong_room.ensures
     c.if-wrong_room.true
@@ -58,8 +59,7 @@ returns-then-wrong_room c =
 pub returns : goal.returns
 returns c =
     let a = c.args in
-    told-good a.card.now a.word a.room c.examine_pattern-found.ensures
-    c.in_default.is
+    told-good a.card.now a.word a.room c.examine_pattern.ensures (ap standing_told c.in_ok-examine_pattern.was)
     c.if-word-gt-MOST_WORD.false
     c.wrong_room.ensures
     c.if-wrong_room.false
