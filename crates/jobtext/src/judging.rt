@@ -1,15 +1,15 @@
 // Judging a job in the rooms that are lent to the judge, and laying its answer down.
 ghost use Rattle.std.specs.Prelude.{◌≤◌, ◌≡◌, length};
 ghost use Rattle.jobform.specs.Form.{compare_job, match_job};
-ghost use Rattle.jobtext.specs.Answer.{lent_word, answer_text};
-ghost use Rattle.jobtext.specs.Promise.{most_answer};
+ghost use Rattle.jobtext.specs.Answer.{answer_text};
 ghost use Rattle.jobtext.specs.Told.{Lays, word_told, told_text};
 
+use crate::MOST_ANSWER;
 use crate::answering::{lay_different, lay_match, lay_refusal, lay_same};
 use crate::lent::{LENT_PAIRS, LENT_WORD, LENT_WORK};
 use answers::{Comparison, Match};
 use judge::{compare, fits};
-use refusals::numbers::SHORT_WORD_ROOM;
+use refusals::refusal::Refusal;
 
 // Two cards, compared.
 pub fn compare_job(
@@ -19,9 +19,8 @@ pub fn compare_job(
     work: &mut [u8; LENT_WORK],
     pairs: &mut [u8; LENT_PAIRS],
     word: &mut [u8; LENT_WORD],
-    out: &mut [u8],
+    out: &mut [u8; MOST_ANSWER],
 ) -> usize
-    requires { most_answer ≤ length out.old }
     ensures { Lays out.old (answer_text (compare_job left.now right.now budget)) result out.new }
 {
     let answer = compare(left, right, work, pairs, word, budget);
@@ -34,13 +33,11 @@ pub fn match_job(
     word: &[u8],
     budget: u32,
     work: &mut [u8; LENT_WORK],
-    out: &mut [u8],
+    out: &mut [u8; MOST_ANSWER],
 ) -> usize
-    requires { most_answer ≤ length out.old }
     ensures { Lays out.old (answer_text (match_job left.now word.now budget)) result out.new }
 {
-    let answer = fits(left, word, work, budget);
-    match answer {
+    match fits(left, word, work, budget) {
         Match::Yes(places, visits) => lay_match(out, b"verdict=yes\n", places, visits),
         Match::No(places, visits) => lay_match(out, b"verdict=no\n", places, visits),
         Match::Refused(number, _, _) => lay_refusal(out, number),
@@ -48,10 +45,8 @@ pub fn match_job(
 }
 
 // The text of what a comparison tells. The word of a difference stands at the start of the word room.
-fn lay_comparison(out: &mut [u8], answer: Comparison, word: &[u8]) -> usize
-    requires most_answer_in_bounds { most_answer ≤ length out.old }
-    requires answer_in_bounds { word_told answer ≤ length word.now }
-    requires word_len { length word.now ≡ lent_word }
+fn lay_comparison(out: &mut [u8; MOST_ANSWER], answer: Comparison, word: &[u8; LENT_WORD]) -> usize
+    requires { word_told answer ≤ length word.now }
     ensures { Lays out.old (told_text answer word.now) result out.new }
 {
     match answer {
@@ -64,6 +59,8 @@ fn lay_comparison(out: &mut [u8], answer: Comparison, word: &[u8]) -> usize
             }
         }
         Comparison::Refused(number, _, _, _) => lay_refusal(out, number),
-        Comparison::WordRoomShort(_, _, _, _) => lay_refusal(out, SHORT_WORD_ROOM),
+        Comparison::WordRoomShort(_, _, _, _) => {
+            lay_refusal(out, Refusal::ShortWordRoom.number())
+        }
     }
 }

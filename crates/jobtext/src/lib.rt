@@ -2,7 +2,7 @@
 // The definitions that its promise cites stand in specs/; specs/Lib.antt lists them.
 #![tactic(auto)]
 
-ghost use Rattle.std.specs.Prelude.{◌*◌, ◌≤◌, length};
+ghost use Rattle.std.specs.Prelude.{◌≤◌, length};
 ghost use Rattle.refusals.specs.Limits.{most_job};
 ghost use Rattle.jobtext.specs.Promise.{AnswersIn};
 
@@ -11,7 +11,7 @@ use crate::judging::{compare_job, match_job};
 use crate::lent::{LENT_PAIRS, LENT_WORD, LENT_WORK};
 use jobform::{Job, read_job};
 use refusals::limits::MOST_JOB;
-use refusals::numbers::JOB_FORM;
+use refusals::refusal::Refusal;
 
 mod answering;
 mod judging;
@@ -29,7 +29,7 @@ pub fn answer(text: &[u8], out: &mut [u8; MOST_ANSWER]) -> usize
     ensures { AnswersIn text.now out.old result out.new }
 {
     if MOST_JOB < text.len() {
-        return lay_refusal(out, JOB_FORM);
+        return lay_refusal(out, Refusal::JobForm.number());
     }
     let mut left = [0u8; MOST_HEX];
     let mut second = [0u8; MOST_HEX];
@@ -50,30 +50,31 @@ pub fn answer(text: &[u8], out: &mut [u8; MOST_ANSWER]) -> usize
 // The same in rooms that are lent: two for what a job holds in hex, and the judge's three.
 fn answer_in(
     text: &[u8],
-    left: &mut [u8],
-    second: &mut [u8],
+    left: &mut [u8; MOST_HEX],
+    second: &mut [u8; MOST_HEX],
     work: &mut [u8; LENT_WORK],
     pairs: &mut [u8; LENT_PAIRS],
     word: &mut [u8; LENT_WORD],
     out: &mut [u8; MOST_ANSWER],
 ) -> usize
-    requires text_len_bound { length text.now ≤ most_job }
-    requires most_job_bound { most_job ≤ 2 * length left.old }
-    requires most_job_bound_2 { most_job ≤ 2 * length second.old }
+    requires text_short { length text.now ≤ most_job }
     ensures { AnswersIn text.now out.old result out.new }
 {
-    let job = read_job(text, left, second);
-    match job {
-        Job::Compare(l, s, budget) => compare_job(
-            &left[0..l],
-            &second[0..s],
-            budget,
-            work,
-            pairs,
-            word,
-            out,
-        ),
-        Job::Match(l, s, budget) => match_job(&left[0..l], &second[0..s], budget, work, out),
-        Job::Bad => lay_refusal(out, JOB_FORM),
+    match read_job(text, left, second) {
+        Some(
+            Job::Compare {
+                left: l,
+                right: r,
+                budget,
+            },
+        ) => compare_job(&left[0..l], &second[0..r], budget, work, pairs, word, out),
+        Some(
+            Job::Match {
+                left: l,
+                word: w,
+                budget,
+            },
+        ) => match_job(&left[0..l], &second[0..w], budget, work, out),
+        None => lay_refusal(out, Refusal::JobForm.number()),
     }
 }

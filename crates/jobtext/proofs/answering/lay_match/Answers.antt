@@ -1,15 +1,16 @@
 -- `lay_match` lays down the verdict's line, then the two counts.
 use native.Mathlib.Omega.{arith}
+use mathlib.Core.Path.{ap}
+use lib.ListN.{length}
 use Rattle.text.specs.Laws.Writing.{put_both}
 use Rattle.jobtext.specs.Laws.Answering.{lays}
 use Rattle.jobtext.proofs.answering.lay_match.Goals as goal
 
 pub returns : goal.returns
 returns c =
-    let n = c in
-    let p = n in
-    let e = p.put-at.ensures.ends in
-    let k = p.put-at.auto.out in
-    let l = n.put_two_counts.ensures.upper_bound in
-    let m = n.put_two_counts.auto.out in
-    lays (put_both p.put-at.ensures n.put_two_counts.ensures.puts) (omega arith) (omega arith)
+    let n = c.new-writer.ensures in
+    let first = rw (n.contents, n.place) at c.put.ensures.puts in
+    let e = first.ends in
+    let l = c.put_two_counts.ensures.upper_bound in
+    lays (put_both first c.put_two_counts.ensures.puts) (omega (arith, c.requires))
+    (omega (arith, c.put_two_counts.ensures.as_long, c.put.ensures.as_long, ap length n.contents, c.told-out))

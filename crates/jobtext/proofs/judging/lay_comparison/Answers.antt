@@ -1,4 +1,5 @@
 -- `lay_comparison` lays down the text of the case that the answer is.
+use native.Mathlib.Omega.{arith}
 use mathlib.Core.Path.{ap}
 use lib.Dec.{lit≤}
 use Rattle.answers.specs.declared.Comparison.TheVariants.{Same, Refused, WordRoomShort}
@@ -8,30 +9,24 @@ use Rattle.jobtext.specs.Laws.Judging.{laid_as, word_within, word_short, differe
 use Rattle.jobtext.proofs.judging.lay_comparison.Goals as goal
 
 pub slice_bounds-lay_different-end : goal.slice_bounds-lay_different-end
-slice_bounds-lay_different-end c =
-    let a = c in
-    let s = a in
-    word_within s.args.word.now a.in-Different.is s.requires.answer_in_bounds
+slice_bounds-lay_different-end c = omega (arith, word_within c.args.word.now c.in-Different.is c.requires, c.told-word)
 
 pub lay_different-requires : goal.lay_different-requires
 lay_different-requires c =
     let a = c in
     let s = a in
     let r = s.args.word.now in
-    record { most_answer_in_bounds = s.requires.most_answer_in_bounds; word_len_bound = word_short r (word_within r a.in-Different.is s.requires.answer_in_bounds) s.requires.word_len; side_len_bound = lit≤ tt }
+    record { word_short = word_short r (word_within r a.in-Different.is s.requires) s.told-word; side_short = lit≤ tt }
 
 pub slice_bounds-lay_different-end-else-left_has : goal.slice_bounds-lay_different-end-else-left_has
-slice_bounds-lay_different-end-else-left_has c =
-    let a = c in
-    let s = a in
-    word_within s.args.word.now a.in-Different.is s.requires.answer_in_bounds
+slice_bounds-lay_different-end-else-left_has c = omega (arith, word_within c.args.word.now c.in-Different.is c.requires, c.told-word)
 
 pub lay_different-requires-else-left_has : goal.lay_different-requires-else-left_has
 lay_different-requires-else-left_has c =
     let a = c in
     let s = a in
     let r = s.args.word.now in
-    record { most_answer_in_bounds = s.requires.most_answer_in_bounds; word_len_bound = word_short r (word_within r a.in-Different.is s.requires.answer_in_bounds) s.requires.word_len; side_len_bound = lit≤ tt }
+    record { word_short = word_short r (word_within r a.in-Different.is s.requires) s.told-word; side_short = lit≤ tt }
 
 pub returns-in-Same : goal.returns-in-Same
 returns-in-Same c = let a = c in laid_as a.args.word.now (Same _ _ _) a.in-Same.is c.lay_same.ensures
@@ -52,4 +47,4 @@ pub returns-in-Refused : goal.returns-in-Refused
 returns-in-Refused c = let a = c in laid_as a.args.word.now (Refused _ _ _ _) a.in-Refused.is c.lay_refusal.ensures
 
 pub returns-in-WordRoomShort : goal.returns-in-WordRoomShort
-returns-in-WordRoomShort c = let a = c in laid_as a.args.word.now (WordRoomShort _ _ _ _) a.in-WordRoomShort.is c.lay_refusal-in-WordRoomShort.ensures
+returns-in-WordRoomShort c = let a = c in laid_as a.args.word.now (WordRoomShort _ _ _ _) a.in-WordRoomShort.is (rw c.number.ensures at c.lay_refusal-in-WordRoomShort.ensures)

@@ -7,17 +7,11 @@ use Rattle.jobtext.proofs.judging.match_job.Goals as goal
 
 pub returns-in-Yes : goal.returns-in-Yes
 unfolding ascii
-returns-in-Yes c =
-    let a = c in
-    match_laid c.fits-answer.ensures (omega arith) (Yes _ _) a.in-Yes.is c.lay_match.ensures
+returns-in-Yes c = match_laid c.fits.ensures (omega arith) (Yes _ _) c.in-Yes.is c.lay_match.ensures
 
 pub returns-in-No : goal.returns-in-No
 unfolding ascii
-returns-in-No c =
-    let a = c in
-    match_laid c.fits-answer.ensures (omega arith) (No _ _) a.in-No.is c.lay_match-in-No.ensures
+returns-in-No c = match_laid c.fits.ensures (omega arith) (No _ _) c.in-No.is c.lay_match-in-No.ensures
 
 pub returns-in-Refused : goal.returns-in-Refused
-returns-in-Refused c =
-    let a = c in
-    match_laid c.fits-answer.ensures (omega arith) (Refused _ _ _) a.in-Refused.is c.lay_refusal.ensures
+returns-in-Refused c = match_laid c.fits.ensures (omega arith) (Refused _ _ _) c.in-Refused.is c.lay_refusal.ensures
