@@ -9,7 +9,7 @@ ghost use Rattle.searching.specs.Told.{table_of, found_word, Goes};
 use crate::going::End;
 use crate::table::Table;
 use pairs::pair::{PAIR, Pair};
-use pairs::table::{place, stands_in};
+use pairs::table::place;
 use refusals::refusal::Refusal;
 use store::interning::marked_at;
 use store::work::Work;
@@ -38,7 +38,7 @@ pub fn look(
             left_has,
         });
     }
-    if stands_in(table.room, table.pairs, x as u16, y as u16) {
+    if table.has(x as u16, y as u16) {
         return Ok(());
     }
     if table.pairs < table.room.len() / PAIR {

@@ -10,7 +10,6 @@ use crate::going::End;
 use crate::looking::look;
 use crate::table::Table;
 use derivative::both::derive_both;
-use pairs::pair::read;
 use store::work::Work;
 
 // The search from the opening pair, over an empty table: the table is closed, or the search is at an end before.
@@ -79,7 +78,7 @@ fn by_letter(
     ensures same_pair_room { table.new.room.ghost_name ≡ table.old.room.ghost_name }
     ensures goes { Goes work.old table.old (by_letter (space_of work.old) (pairs_of table.old.room.now) n letter (store_of work.old) (table_of table.old) work.old.budget) result work.new table.new }
 {
-    let p = read(table.room, n);
+    let p = table.pair(n);
     let (x, y) = derive_both(work, p.left as usize, p.right as usize, letter)?;
     look(work, table, x, y, n, letter)
 }

@@ -2,13 +2,16 @@
 use Rattle.std.specs.Prelude.{ℕ, ◌+◌, ◌-◌, ◌<◌, ◌≤◌, Bool, true, false, not, List, [], ◌∷◌, ◌++◌, ◌≡◌, refl, ltb, length}
 use Rattle.std.proofs.Common.{arith, sym, ◌∙◌, ap, subst, lt-ltb, le-ltb, length-append}
 use Rattle.std.specs.Bool.{beq}
+use Rattle.language.specs.Word.{IsByte}
+use Rattle.refusals.specs.Numbers.{no_place_for_pair}
 use Rattle.records.specs.declared.record.Record.{Record}
 use Rattle.records.specs.Record.{child}
 use Rattle.cards.specs.Mark.{marked}
-use Rattle.store.specs.Room.{store_in, laid}
+use Rattle.store.specs.Room.{store_in, places_of, laid}
 use Rattle.store.specs.Good.{GoodStore}
 use Rattle.store.proofs.Laws.Room.{laid_same}
-use Rattle.store.proofs.Laws.GoodRoom.{length_store_in}
+use Rattle.store.proofs.Laws.GoodRoom.{room_ready, length_store_in}
+use Rattle.derivative.proofs.Laws.Rooms.{in_store}
 use Rattle.pairs.specs.declared.pair.Pair.{Pair}
 use Rattle.pairs.specs.Pair.{stands_in}
 use Rattle.pairs.specs.Room.{table_in, pairs_of, laid_pairs}
@@ -20,7 +23,10 @@ use Rattle.searching.proofs.Laws.Told.{On, EndsCode}
 use Rattle.searching.specs.Search.{different, stopped, Going, on, ends, look}
 use Rattle.searching.proofs.Laws.Parts.{looked as looked-by}
 use Rattle.searching.proofs.Laws.Told.{GoodPairs, tells_different, tells_stopped, TellsGoing, tells_on, tells_ends, going_store, going_table, GoesRooms}
+use Rattle.searching.specs.Table.{GoodTable}
 use Rattle.searching.specs.Told.{found_word}
+use Rattle.searching.proofs.Laws.Keeps.{KeepsGoing, look_keeps}
+use Rattle.searching.proofs.Laws.Rooms.{stood_first, good_pairs_now, went_on, stood_on}
 
 -- What the test for marks that differ says.
 not_true : (b : Bool) → not b ≡ true → b ≡ false
@@ -86,6 +92,19 @@ module _ {work : List ℕ} {places : ℕ} {pairs : List ℕ} {placed x y origin 
         pair_room = sym (laid_pairs_same c.good_pairs.stands) ∙ ap (λ (t : List Pair). laid_pairs t pairs) b;
       })
 
+  -- A table that goes on is a good one.
+  module _ (byte : IsByte letter) where
+    keeps : KeepsGoing (places_of work) (pairs_of pairs) store table left looked
+    keeps =
+        look_keeps {room = places_of work} {pairs = pairs_of pairs} x y origin letter word left (room_ready c.good) c.good_pairs.tabled (in_store work c.inside.0)
+        (in_store work c.inside.1) (let h = c.from in omega (arith, all_pairs)) byte
+
+    pub look_leaves : {placed' : ℕ} {pairs' : List ℕ} → GoesRooms work pairs looked (On places placed' left) work pairs' → GoodTable pairs' placed'
+    unfolding stood_first
+    look_leaves g =
+        let s = good_pairs_now (stood_on (stood_first work places pairs placed left c.good c.good_pairs) (went_on keeps g.tells refl) g) in
+        record { stands = s.stands; short = s.short }
+
   -- What the marks at the two places say.
   module _ {l r : Bool} (e : l ≡ marked (child store x)) (f : r ≡ marked (child store y)) where
     pub look_differs : not (beq l r) ≡ true → GoesRooms work pairs looked (EndsCode (Different origin letter l places placed left)) work pairs
@@ -123,9 +142,9 @@ module _ {work : List ℕ} {places : ℕ} {pairs : List ℕ} {placed x y origin 
                 pair_room = p;
               })
 
-          pub look_full : pairs_of pairs ≤ placed → GoesRooms work pairs looked (EndsCode (Stopped 9 places placed left)) work pairs
+          pub look_full : pairs_of pairs ≤ placed → GoesRooms work pairs looked (EndsCode (Stopped no_place_for_pair places placed left)) work pairs
           look_full l =
               let full : ltb (length table) (pairs_of pairs) ≡ false = le-ltb (length table) (pairs_of pairs) (omega (arith, all_pairs)) in
-              let told : EndsCode (Stopped 9 (length store) (length table) left) ≡ EndsCode (Stopped 9 places placed left)
-              = λ i. EndsCode (Stopped 9 (all_places i) (all_pairs i) left) in
-              unchanged (by_tests equal (sym g ∙ h) full) (subst (TellsGoing (ends (stopped 9 store table left))) told (tells_ends tells_stopped)) refl refl
+              let told : EndsCode (Stopped no_place_for_pair (length store) (length table) left) ≡ EndsCode (Stopped no_place_for_pair places placed left)
+              = λ i. EndsCode (Stopped no_place_for_pair (all_places i) (all_pairs i) left) in
+              unchanged (by_tests equal (sym g ∙ h) full) (subst (TellsGoing (ends (stopped no_place_for_pair store table left))) told (tells_ends tells_stopped)) refl refl

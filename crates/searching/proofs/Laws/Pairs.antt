@@ -21,6 +21,7 @@ use Rattle.searching.proofs.Laws.Told.{CodeGoing}
 use Rattle.searching.proofs.Laws.Told.{On, EndsCode}
 use Rattle.searching.specs.Search.{Search, same, Going, look, by_letters, take_pairs, search}
 use Rattle.searching.proofs.Laws.Told.{GoodPairs, TellsEnd, tells_same, GoesRooms, EndsRooms}
+use Rattle.searching.specs.Table.{GoodTable}
 use Rattle.searching.specs.Told.{LegalPairs, found_word}
 use Rattle.searching.proofs.Laws.Parts.{search_after, turned}
 use Rattle.searching.proofs.Laws.Keeps.{tabled_none, KeepsGoing, look_keeps, by_letters_keeps, take_pairs_keeps}
@@ -138,6 +139,10 @@ module _ {work₀ : List ℕ} {places : ℕ} {pairs₀ : List ℕ} {placed : ℕ
           let h = rw w.is at from_first in
           rw (goes_on ∙ ap (then_take cap few letters (few - suc n) (suc n)) w.is)
           (record { tells = w.tells; work_room = h.work_room; pair_room = h.pair_room })
+
+-- The room of a good table is of legal size.
+pub legal : {room : List ℕ} {pairs : ℕ} → GoodTable room pairs → LegalPairs room
+legal g = record { bytes = g.stands.bytes; short = g.short }
 
 -- The call of a search: no pair stands in the pair room yet.
 pub none_placed : (work : List ℕ) (places : ℕ) (pairs : List ℕ) → LegalPairs pairs → GoodPairs pairs 0 work places
