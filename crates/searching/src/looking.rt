@@ -41,19 +41,19 @@ pub fn look(
     if table.has(x as u16, y as u16) {
         return Ok(());
     }
-    if table.pairs < table.room.len() / PAIR {
-        place(
-            table.room,
-            table.pairs,
-            Pair {
-                left: x as u16,
-                right: y as u16,
-                origin: origin as u16,
-                letter,
-            },
-        );
-        table.pairs += 1;
-        return Ok(());
+    if table.room.len() / PAIR <= table.pairs {
+        return Err(End::Refused(Refusal::NoPlaceForPair));
     }
-    Err(End::Refused(Refusal::NoPlaceForPair))
+    place(
+        table.room,
+        table.pairs,
+        Pair {
+            left: x as u16,
+            right: y as u16,
+            origin: origin as u16,
+            letter,
+        },
+    );
+    table.pairs += 1;
+    Ok(())
 }

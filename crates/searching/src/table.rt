@@ -24,10 +24,7 @@ impl<'a> Table<'a> {
         ensures room_as_lent { result.room.now ≡ room.old }
         ensures no_pair { result.pairs ≡ 0 }
     {
-        Table {
-            room,
-            pairs: 0,
-        }
+        Table { room, pairs: 0 }
     }
 
     // The pair numbered n.

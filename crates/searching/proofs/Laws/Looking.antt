@@ -17,14 +17,15 @@ use Rattle.pairs.specs.Pair.{stands_in}
 use Rattle.pairs.specs.Room.{table_in, pairs_of, laid_pairs}
 use Rattle.pairs.specs.Laws.Pair.{length_first_pairs}
 use Rattle.pairs.specs.Laws.Room.{laid_pairs_same}
-use Rattle.searching.proofs.Laws.Told.{Different, Stopped}
-use Rattle.searching.proofs.Laws.Told.{CodeGoing}
-use Rattle.searching.proofs.Laws.Told.{On, EndsCode}
 use Rattle.searching.specs.Search.{different, stopped, Going, on, ends, look}
 use Rattle.searching.proofs.Laws.Parts.{looked as looked-by}
-use Rattle.searching.proofs.Laws.Told.{GoodPairs, tells_different, tells_stopped, TellsGoing, tells_on, tells_ends, going_store, going_table, GoesRooms}
 use Rattle.searching.specs.Table.{GoodTable}
-use Rattle.searching.specs.Told.{found_word}
+use Rattle.searching.specs.Told.{table_of, found_word}
+use Rattle.searching.specs.Laws.Keeps.{Tabled}
+use Rattle.searching.specs.declared.table.Table.{Table}
+use Rattle.searching.proofs.Laws.Told.{Different, Stopped, CodeGoing, On, EndsCode, GoodPairs, good_pairs, tells_different, tells_stopped, TellsGoing, tells_on, tells_ends, going_store, going_table, GoesRooms}
+use Rattle.store.specs.declared.work.Work.{Work}
+use Rattle.store.specs.Work.{store_of}
 use Rattle.searching.proofs.Laws.Keeps.{KeepsGoing, look_keeps}
 use Rattle.searching.proofs.Laws.Rooms.{stood_first, good_pairs_now, went_on, stood_on}
 
@@ -44,9 +45,9 @@ pub record Looking (work : List ℕ) (places : ℕ) (pairs : List ℕ) (placed x
   pub good_pairs : GoodPairs pairs placed work places
   pub from : origin ≤ placed - 1
 
-pub looking : (work : List ℕ) (places : ℕ) (pairs : List ℕ) (placed x y origin : ℕ) → GoodStore work places → (x < places) × (y < places)
-    → GoodPairs pairs placed work places → origin ≤ placed - 1 → Looking work places pairs placed x y origin
-looking work places pairs placed x y origin g i p f = record { good = g; inside = i; good_pairs = p; from = f }
+pub looking : (w : Work) (t : Table) {x y origin : ℕ} → (x < w.places) × (y < w.places) → Tabled (pairs_of t.room.now) (store_of w) (table_of t)
+    → origin ≤ t.pairs - 1 → Looking w.room.now w.places t.room.now t.pairs x y origin
+looking w t i d f = record { good = w.good; inside = i; good_pairs = good_pairs t.good d; from = f }
 
 module _ {work : List ℕ} {places : ℕ} {pairs : List ℕ} {placed x y origin : ℕ} (c : Looking work places pairs placed x y origin) (letter left : ℕ) where
   abbrev store : List Record

@@ -4,16 +4,12 @@ use native.Mathlib.Omega.{arith}
 use Rattle.std.specs.Prelude.{refl}
 use Rattle.std.proofs.Common.{sym, ◌∙◌, ap}
 use Rattle.std.proofs.lemmas.Result.{err_from_is_err_and}
-use Rattle.searching.proofs.Laws.Told.{going_of, good_pairs, goes_rooms, rooms_go}
+use Rattle.searching.proofs.Laws.Told.{going_of, goes_rooms, rooms_go}
 use Rattle.searching.proofs.Laws.Letters.{letters_first, letters_last, letter_call, letter_on, letter_ended}
 use Rattle.searching.proofs.taking.by_letters.Goals as goal
 
 pub loop-letter-init : goal.loop-letter-init
-loop-letter-init c =
-    let a = c.args in
-    let w = a.work.now in
-    let t = a.table.now in
-    (letters_first w.room.now w.places t.room.now t.pairs a.n a.letters.now w.budget w.good (good_pairs t.good c.requires.tabled) c.requires.placed, refl, refl)
+loop-letter-init c = (letters_first c.args.work.now c.args.table.now c.args.letters.now c.requires.tabled c.requires.placed, refl, refl)
 
 pub by_letter-requires-clause-tabled : goal.by_letter-requires-clause-tabled
 by_letter-requires-clause-tabled c =
@@ -40,11 +36,10 @@ loop-letter-preserved c =
     let l = c.loop-letter in
     let w = c.by_letter.new.work in
     let t = c.by_letter.new.table in
-    let went = ap (λ r. going_of r w.places t.pairs w.budget) c.in_ok-by_letter.was in
-    (
+    let went = ap (λ r. going_of r w.places t.pairs w.budget) c.in_ok-by_letter.was in (
       letter_on l.invariant.0 c.loop-letter-test.true (c.type_inv.letters l.letter-index).fits (goes_rooms c.by_letter.ensures.goes) went,
       c.by_letter.ensures.same_room ∙ l.invariant.1,
-      c.by_letter.ensures.same_pair_room ∙ l.invariant.2
+      c.by_letter.ensures.same_pair_room ∙ l.invariant.2,
     )
 
 pub returns-clause-goes : goal.returns-clause-goes

@@ -5,16 +5,12 @@ use Rattle.std.specs.Prelude.{refl}
 use Rattle.std.proofs.Common.{sym, ◌∙◌, ap}
 use Rattle.std.proofs.lemmas.Result.{err_from_is_err_and}
 use Rattle.language.proofs.Laws.Words.{bytes_all}
-use Rattle.searching.proofs.Laws.Told.{going_of, good_pairs, goes_rooms, rooms_go, rooms_end}
+use Rattle.searching.proofs.Laws.Told.{going_of, goes_rooms, rooms_end}
 use Rattle.searching.proofs.Laws.Pairs.{pairs_first, pairs_left, pairs_last, letters_call, pair_taken, pair_ended}
 use Rattle.searching.proofs.taking.take_pairs.Goals as goal
 
 pub loop-n-init : goal.loop-n-init
-loop-n-init c =
-    let a = c.args in
-    let w = a.work.now in
-    let t = a.table.now in
-    (pairs_first w.room.now w.places t.room.now t.pairs a.letters.now w.budget w.good (good_pairs t.good c.requires), refl, refl)
+loop-n-init c = (pairs_first c.args.work.now c.args.table.now c.args.letters.now c.requires, refl, refl)
 
 pub by_letters-requires-clause-tabled : goal.by_letters-requires-clause-tabled
 by_letters-requires-clause-tabled c =
@@ -35,11 +31,10 @@ loop-n-preserved c =
     let w = c.by_letters.new.work in
     let t = c.by_letters.new.table in
     let bytes = bytes_all c.args.letters.now (λ i. (c.type_inv.letters i).fits) in
-    let went = ap (λ r. going_of r w.places t.pairs w.budget) c.in_ok-by_letters.was in
-    (
+    let went = ap (λ r. going_of r w.places t.pairs w.budget) c.in_ok-by_letters.was in (
       pair_taken l.invariant.0 c.loop-n-test.true bytes (goes_rooms c.by_letters.ensures.goes) went,
       c.by_letters.ensures.same_room ∙ l.invariant.1,
-      c.by_letters.ensures.same_pair_room ∙ l.invariant.2
+      c.by_letters.ensures.same_pair_room ∙ l.invariant.2,
     )
 
 pub loop-n-smaller : goal.loop-n-smaller
