@@ -1,5 +1,5 @@
 -- What a search leaves: no more budget than it had, and a table whose pairs each come from one with a lower number.
-use Rattle.std.specs.Prelude.{ℕ, ◌<◌, ◌≤◌, List, []}
+use Rattle.std.specs.Prelude.{ℕ, ◌<◌, ◌≤◌, List}
 use Rattle.std.proofs.Common.{arith}
 use Rattle.std.specs.declared.result.Result.{Result}
 use Rattle.language.specs.Word.{Bytes}
@@ -14,7 +14,7 @@ use Rattle.searching.specs.declared.going.End.{End}
 use Rattle.searching.specs.declared.table.Table.{Table}
 use Rattle.searching.specs.Search.{Search, search}
 use Rattle.searching.specs.Laws.Words.{Ordered}
-use Rattle.searching.specs.Told.{OrderedPairs, table_of, TellsSearch, tells_same, tells_before, tells_different, tells_refused, Ends}
+use Rattle.searching.specs.Told.{OrderedPairs, TellsSearch, tells_same, tells_before, tells_different, tells_refused, Ends}
 use Rattle.searching.proofs.Laws.Keeps.{KeepsSearch, keeps_same, keeps_different, keeps_stopped, search_keeps}
 use Rattle.searching.proofs.Laws.Rooms.{listed_byte}
 

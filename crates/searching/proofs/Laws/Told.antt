@@ -1,13 +1,11 @@
 -- What is told of the parts of a search, with the places then taken, the pairs placed and the budget left, as one value: the laws of rooms go by it, and
 -- the contracts' `Goes` and `Ends` say the same.
-use Rattle.std.specs.Prelude.{ℕ, ◌-◌, ◌*◌, ◌≤◌, Bool, List, [], ◌∷◌, ◌++◌, ◌≡◌, refl, length}
-use Rattle.std.proofs.Common.{arith, sym, ◌∙◌, ap, ap₂, subst}
+use Rattle.std.specs.Prelude.{ℕ, ◌-◌, ◌≤◌, Bool, List, ◌≡◌, refl, length}
+use Rattle.std.proofs.Common.{arith, sym, ◌∙◌, ap, ap₂}
 use Rattle.std.specs.declared.result.Result.{Result}
 use Rattle.std.specs.declared.result.Result.TheVariants.{Ok, Err}
-use Rattle.language.specs.Word.{Bytes}
-use Rattle.refusals.specs.declared.refusal.Refusal.{Refusal}
 use Rattle.refusals.specs.Number.{number}
-use Rattle.refusals.specs.Limits.{most_pairs, most_pair_room}
+use Rattle.refusals.specs.Limits.{most_pair_room}
 use Rattle.records.specs.declared.record.Record.{Record}
 use Rattle.store.specs.declared.work.Work.{Work}
 use Rattle.store.specs.Room.{store_in, laid}
@@ -21,7 +19,6 @@ use Rattle.pairs.specs.Laws.Room.{table_of_laid}
 use Rattle.searching.specs.declared.going.End.{End as CodeEnd}
 use Rattle.searching.specs.declared.going.End.TheVariants.{Different as differs, Refused as refused}
 use Rattle.searching.specs.declared.table.Table.{Table}
-use Rattle.searching.specs.ReadOff.{word_of}
 use Rattle.searching.specs.Search.{Search, same, different, stopped, Going, on, ends}
 use Rattle.searching.specs.Table.{GoodTable}
 use Rattle.searching.specs.Told.{found_word, table_of, Goes, Ends}

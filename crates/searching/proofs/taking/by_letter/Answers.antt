@@ -1,5 +1,4 @@
 -- `by_letter` derives both places of its pair as the definition does, and looks at the pair that they come to.
-use Rattle.std.specs.Prelude.{refl}
 use Rattle.std.proofs.Common.{ap}
 use Rattle.std.proofs.lemmas.Result.{err_from_is_err_and}
 use Rattle.derivative.proofs.Laws.Told.{both_of, both_come_room}

@@ -1,8 +1,7 @@
 -- `by_letters` answers as the definition does: with the letters before this one done, the store and the table that stand in the two rooms are those
 -- from which the definition goes on with the rest.
-use native.Mathlib.Omega.{arith}
 use Rattle.std.specs.Prelude.{refl}
-use Rattle.std.proofs.Common.{sym, ◌∙◌, ap}
+use Rattle.std.proofs.Common.{◌∙◌, ap}
 use Rattle.std.proofs.lemmas.Result.{err_from_is_err_and}
 use Rattle.searching.proofs.Laws.Told.{going_of, goes_rooms, rooms_go}
 use Rattle.searching.proofs.Laws.Letters.{letters_first, letters_last, letter_call, letter_on, letter_ended}

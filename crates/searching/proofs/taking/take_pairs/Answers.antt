@@ -2,7 +2,7 @@
 -- which the definition takes the rest.
 use native.Mathlib.Omega.{arith}
 use Rattle.std.specs.Prelude.{refl}
-use Rattle.std.proofs.Common.{sym, ◌∙◌, ap}
+use Rattle.std.proofs.Common.{◌∙◌, ap}
 use Rattle.std.proofs.lemmas.Result.{err_from_is_err_and}
 use Rattle.language.proofs.Laws.Words.{bytes_all}
 use Rattle.searching.proofs.Laws.Told.{going_of, goes_rooms, rooms_end}
