@@ -12,12 +12,10 @@ pub fn stands_in(room: &[u8], pairs: usize, left: u16, right: u16) -> bool
     ensures { result ≡ stands_in (table_in room.now pairs) left right }
 {
     let wanted = both(left, right);
-    let mut at = 0;
-    while at < pairs {
+    for at in 0..pairs {
         if places_at(room, at) == wanted {
             return true;
         }
-        at += 1;
     }
     false
 }

@@ -13,3 +13,4 @@ pub mod Rooms
 pub mod Looking
 pub mod Letters
 pub mod Pairs
+pub mod Leaving

@@ -9,7 +9,7 @@ ghost use Rattle.searching.specs.Told.{table_of, found_word, Goes};
 use crate::going::End;
 use crate::table::Table;
 use pairs::pair::{PAIR, Pair};
-use pairs::table::{place, stands_in};
+use pairs::table::place;
 use refusals::refusal::Refusal;
 use store::interning::marked_at;
 use store::work::Work;
@@ -38,22 +38,22 @@ pub fn look(
             left_has,
         });
     }
-    if stands_in(table.room, table.pairs, x as u16, y as u16) {
+    if table.has(x as u16, y as u16) {
         return Ok(());
     }
-    if table.pairs < table.room.len() / PAIR {
-        place(
-            table.room,
-            table.pairs,
-            Pair {
-                left: x as u16,
-                right: y as u16,
-                origin: origin as u16,
-                letter,
-            },
-        );
-        table.pairs += 1;
-        return Ok(());
+    if table.room.len() / PAIR <= table.pairs {
+        return Err(End::Refused(Refusal::NoPlaceForPair));
     }
-    Err(End::Refused(Refusal::NoPlaceForPair))
+    place(
+        table.room,
+        table.pairs,
+        Pair {
+            left: x as u16,
+            right: y as u16,
+            origin: origin as u16,
+            letter,
+        },
+    );
+    table.pairs += 1;
+    Ok(())
 }

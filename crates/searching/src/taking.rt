@@ -1,16 +1,15 @@
 // The fixed search: pairs in table order, for each the letters ascending, for each letter the left derived, then the right.
-ghost use Rattle.std.specs.Prelude.{◌≡◌, [], ◌<◌};
+ghost use Rattle.std.specs.Prelude.{◌≡◌, ◌<◌, ◌≤◌};
 ghost use Rattle.store.specs.Work.{store_of, space_of};
 ghost use Rattle.pairs.specs.Room.{pairs_of};
 ghost use Rattle.searching.specs.Search.{by_letter, by_letters, take_pairs, search};
 ghost use Rattle.searching.specs.Laws.Keeps.{Tabled};
-ghost use Rattle.searching.specs.Told.{table_of, Goes, Ends};
+ghost use Rattle.searching.specs.Told.{OrderedPairs, table_of, Goes, Ends};
 
 use crate::going::End;
 use crate::looking::look;
 use crate::table::Table;
 use derivative::both::derive_both;
-use pairs::pair::read;
 use store::work::Work;
 
 // The search from the opening pair, over an empty table: the table is closed, or the search is at an end before.
@@ -26,6 +25,8 @@ pub fn search(
     ensures same_room { work.new.room.ghost_name ≡ work.old.room.ghost_name }
     ensures same_pair_room { table.new.room.ghost_name ≡ table.old.room.ghost_name }
     ensures ends { Ends work.old table.old (search (space_of work.old) (pairs_of table.old.room.now) letters.now x y (store_of work.old) work.old.budget) result work.new table.new }
+    ensures spent { work.new.budget ≤ work.old.budget }
+    ensures ordered { OrderedPairs table.new.room.now table.new.pairs }
 {
     look(work, table, x, y, 0, 0)?;
     take_pairs(work, table, letters)
@@ -67,19 +68,14 @@ fn by_letters(
 }
 
 // The pair numbered n by one letter.
-fn by_letter(
-    work: &mut Work<'_>,
-    table: &mut Table<'_>,
-    n: usize,
-    letter: u8,
-) -> Result<(), End>
+fn by_letter(work: &mut Work<'_>, table: &mut Table<'_>, n: usize, letter: u8) -> Result<(), End>
     requires tabled { Tabled (pairs_of table.old.room.now) (store_of work.old) (table_of table.old) }
     requires placed { n < table.old.pairs }
     ensures same_room { work.new.room.ghost_name ≡ work.old.room.ghost_name }
     ensures same_pair_room { table.new.room.ghost_name ≡ table.old.room.ghost_name }
     ensures goes { Goes work.old table.old (by_letter (space_of work.old) (pairs_of table.old.room.now) n letter (store_of work.old) (table_of table.old) work.old.budget) result work.new table.new }
 {
-    let p = read(table.room, n);
+    let p = table.pair(n);
     let (x, y) = derive_both(work, p.left as usize, p.right as usize, letter)?;
     look(work, table, x, y, n, letter)
 }

@@ -1,4 +1,6 @@
 // Writing a new record at the first free place.
+// These stay on the room and its places, and not on `Work`: the store need not be good after any record is used or written, so what is
+// promised of any record could not be promised of `Work`.
 ghost use Rattle.std.specs.Prelude.{◌≡◌, [], ◌∷◌, ◌++◌, ◌+◌, ◌*◌, ◌≤◌, length};
 ghost use Rattle.store.specs.Room.{store_in, laid};
 ghost use Rattle.store.specs.Good.{GoodStore};

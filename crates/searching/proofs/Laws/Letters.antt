@@ -25,14 +25,14 @@ use Rattle.pairs.specs.Pair.{pair_record, pair_at}
 use Rattle.pairs.specs.Room.{table_in, pairs_of}
 use Rattle.pairs.specs.Laws.Pair.{length_first_pairs, first_pair_at}
 use Rattle.pairs.specs.Laws.Room.{laid_pairs_same}
-use Rattle.searching.proofs.Laws.Told.{End}
-use Rattle.searching.proofs.Laws.Told.{Stopped}
-use Rattle.searching.proofs.Laws.Told.{CodeGoing}
-use Rattle.searching.proofs.Laws.Told.{On, EndsCode}
 use Rattle.searching.specs.ReadOff.{word_of}
 use Rattle.searching.specs.Search.{stopped, Going, on, ends, look, by_letter, by_letters}
-use Rattle.searching.proofs.Laws.Told.{GoodPairs, tells_stopped, TellsGoing, tells_on, tells_ends, GoesRooms}
-use Rattle.searching.specs.Told.{found_word}
+use Rattle.searching.specs.Told.{table_of, found_word}
+use Rattle.searching.specs.Laws.Keeps.{Tabled}
+use Rattle.searching.specs.declared.table.Table.{Table}
+use Rattle.searching.proofs.Laws.Told.{End, Stopped, CodeGoing, On, EndsCode, GoodPairs, good_pairs, tells_stopped, TellsGoing, tells_on, tells_ends, GoesRooms}
+use Rattle.store.specs.declared.work.Work.{Work}
+use Rattle.store.specs.Work.{store_of}
 use Rattle.searching.proofs.Laws.Keeps.{tabled_grows, KeepsGoing, look_keeps, by_letter_keeps}
 use Rattle.searching.proofs.Laws.Looking.{Looking}
 use Rattle.searching.proofs.Laws.Rooms.{Stood, stood_first, places_now, pairs_now, store_now, table_now, good_now, good_pairs_now, goes_from, went_on, went_out, stood_on}
@@ -85,9 +85,9 @@ pub record ByLetter (work : List ℕ) (places : ℕ) (pairs : List ℕ) (placed 
   pub inside : n < placed
   pub byte : IsByte letter
 
-pub one_letter : (work : List ℕ) (places : ℕ) (pairs : List ℕ) (placed n letter : ℕ) → GoodStore work places → GoodPairs pairs placed work places
-    → n < placed → IsByte letter → ByLetter work places pairs placed n letter
-one_letter work places pairs placed n letter g p i b = record { good = g; good_pairs = p; inside = i; byte = b }
+pub one_letter : (w : Work) (t : Table) {n letter : ℕ} → Tabled (pairs_of t.room.now) (store_of w) (table_of t) → n < t.pairs → IsByte letter
+    → ByLetter w.room.now w.places t.room.now t.pairs n letter
+one_letter w t d i b = record { good = w.good; good_pairs = good_pairs t.good d; inside = i; byte = b }
 
 module _ {work : List ℕ} {places : ℕ} {pairs : List ℕ} {placed n letter : ℕ} (c : ByLetter work places pairs placed n letter) (budget : ℕ)
     {p : Pair} (e : p ≡ pair_record pairs n) where
@@ -196,12 +196,11 @@ pub record LettersUnderway (work₀ : List ℕ) (places : ℕ) (pairs₀ : List 
       ≡ by_letters (places_of work₀) (pairs_of pairs₀) n (drop at letters) stood.store stood.table left
 
 -- At first none is done.
-pub letters_first : (work : List ℕ) (places : ℕ) (pairs : List ℕ) (placed n : ℕ) (letters : List ℕ) (budget : ℕ)
-    → GoodStore work places → GoodPairs pairs placed work places → n < placed
-    → LettersUnderway work places pairs placed n letters budget work pairs places placed budget 0
+pub letters_first : (w : Work) (t : Table) {n : ℕ} (letters : List ℕ) → Tabled (pairs_of t.room.now) (store_of w) (table_of t) → n < t.pairs
+    → LettersUnderway w.room.now w.places t.room.now t.pairs n letters w.budget w.room.now t.room.now w.places t.pairs w.budget 0
 unfolding stood_first
-letters_first work places pairs placed n letters budget g p l =
-    record { stood = stood_first work places pairs placed budget g p; inside = l; passed = omega arith; rest = refl }
+letters_first w t letters d l =
+    record { stood = stood_first w.room.now w.places t.room.now t.pairs w.budget w.good (good_pairs t.good d); inside = l; passed = omega arith; rest = refl }
 
 module _ {work₀ : List ℕ} {places : ℕ} {pairs₀ : List ℕ} {placed n : ℕ} {letters : List ℕ} {budget : ℕ} {work pairs : List ℕ} {taken standing left at : ℕ}
     (u : LettersUnderway work₀ places pairs₀ placed n letters budget work pairs taken standing left at) where

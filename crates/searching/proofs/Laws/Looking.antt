@@ -2,25 +2,32 @@
 use Rattle.std.specs.Prelude.{ℕ, ◌+◌, ◌-◌, ◌<◌, ◌≤◌, Bool, true, false, not, List, [], ◌∷◌, ◌++◌, ◌≡◌, refl, ltb, length}
 use Rattle.std.proofs.Common.{arith, sym, ◌∙◌, ap, subst, lt-ltb, le-ltb, length-append}
 use Rattle.std.specs.Bool.{beq}
+use Rattle.language.specs.Word.{IsByte}
+use Rattle.refusals.specs.Numbers.{no_place_for_pair}
 use Rattle.records.specs.declared.record.Record.{Record}
 use Rattle.records.specs.Record.{child}
 use Rattle.cards.specs.Mark.{marked}
-use Rattle.store.specs.Room.{store_in, laid}
+use Rattle.store.specs.Room.{store_in, places_of, laid}
 use Rattle.store.specs.Good.{GoodStore}
 use Rattle.store.proofs.Laws.Room.{laid_same}
-use Rattle.store.proofs.Laws.GoodRoom.{length_store_in}
+use Rattle.store.proofs.Laws.GoodRoom.{room_ready, length_store_in}
+use Rattle.derivative.proofs.Laws.Rooms.{in_store}
 use Rattle.pairs.specs.declared.pair.Pair.{Pair}
 use Rattle.pairs.specs.Pair.{stands_in}
 use Rattle.pairs.specs.Room.{table_in, pairs_of, laid_pairs}
 use Rattle.pairs.specs.Laws.Pair.{length_first_pairs}
 use Rattle.pairs.specs.Laws.Room.{laid_pairs_same}
-use Rattle.searching.proofs.Laws.Told.{Different, Stopped}
-use Rattle.searching.proofs.Laws.Told.{CodeGoing}
-use Rattle.searching.proofs.Laws.Told.{On, EndsCode}
 use Rattle.searching.specs.Search.{different, stopped, Going, on, ends, look}
 use Rattle.searching.proofs.Laws.Parts.{looked as looked-by}
-use Rattle.searching.proofs.Laws.Told.{GoodPairs, tells_different, tells_stopped, TellsGoing, tells_on, tells_ends, going_store, going_table, GoesRooms}
-use Rattle.searching.specs.Told.{found_word}
+use Rattle.searching.specs.Table.{GoodTable}
+use Rattle.searching.specs.Told.{table_of, found_word}
+use Rattle.searching.specs.Laws.Keeps.{Tabled}
+use Rattle.searching.specs.declared.table.Table.{Table}
+use Rattle.searching.proofs.Laws.Told.{Different, Stopped, CodeGoing, On, EndsCode, GoodPairs, good_pairs, tells_different, tells_stopped, TellsGoing, tells_on, tells_ends, going_store, going_table, GoesRooms}
+use Rattle.store.specs.declared.work.Work.{Work}
+use Rattle.store.specs.Work.{store_of}
+use Rattle.searching.proofs.Laws.Keeps.{KeepsGoing, look_keeps}
+use Rattle.searching.proofs.Laws.Rooms.{stood_first, good_pairs_now, went_on, stood_on}
 
 -- What the test for marks that differ says.
 not_true : (b : Bool) → not b ≡ true → b ≡ false
@@ -38,9 +45,9 @@ pub record Looking (work : List ℕ) (places : ℕ) (pairs : List ℕ) (placed x
   pub good_pairs : GoodPairs pairs placed work places
   pub from : origin ≤ placed - 1
 
-pub looking : (work : List ℕ) (places : ℕ) (pairs : List ℕ) (placed x y origin : ℕ) → GoodStore work places → (x < places) × (y < places)
-    → GoodPairs pairs placed work places → origin ≤ placed - 1 → Looking work places pairs placed x y origin
-looking work places pairs placed x y origin g i p f = record { good = g; inside = i; good_pairs = p; from = f }
+pub looking : (w : Work) (t : Table) {x y origin : ℕ} → (x < w.places) × (y < w.places) → Tabled (pairs_of t.room.now) (store_of w) (table_of t)
+    → origin ≤ t.pairs - 1 → Looking w.room.now w.places t.room.now t.pairs x y origin
+looking w t i d f = record { good = w.good; inside = i; good_pairs = good_pairs t.good d; from = f }
 
 module _ {work : List ℕ} {places : ℕ} {pairs : List ℕ} {placed x y origin : ℕ} (c : Looking work places pairs placed x y origin) (letter left : ℕ) where
   abbrev store : List Record
@@ -86,6 +93,19 @@ module _ {work : List ℕ} {places : ℕ} {pairs : List ℕ} {placed x y origin 
         pair_room = sym (laid_pairs_same c.good_pairs.stands) ∙ ap (λ (t : List Pair). laid_pairs t pairs) b;
       })
 
+  -- A table that goes on is a good one.
+  module _ (byte : IsByte letter) where
+    keeps : KeepsGoing (places_of work) (pairs_of pairs) store table left looked
+    keeps =
+        look_keeps {room = places_of work} {pairs = pairs_of pairs} x y origin letter word left (room_ready c.good) c.good_pairs.tabled (in_store work c.inside.0)
+        (in_store work c.inside.1) (let h = c.from in omega (arith, all_pairs)) byte
+
+    pub look_leaves : {placed' : ℕ} {pairs' : List ℕ} → GoesRooms work pairs looked (On places placed' left) work pairs' → GoodTable pairs' placed'
+    unfolding stood_first
+    look_leaves g =
+        let s = good_pairs_now (stood_on (stood_first work places pairs placed left c.good c.good_pairs) (went_on keeps g.tells refl) g) in
+        record { stands = s.stands; short = s.short }
+
   -- What the marks at the two places say.
   module _ {l r : Bool} (e : l ≡ marked (child store x)) (f : r ≡ marked (child store y)) where
     pub look_differs : not (beq l r) ≡ true → GoesRooms work pairs looked (EndsCode (Different origin letter l places placed left)) work pairs
@@ -123,9 +143,9 @@ module _ {work : List ℕ} {places : ℕ} {pairs : List ℕ} {placed x y origin 
                 pair_room = p;
               })
 
-          pub look_full : pairs_of pairs ≤ placed → GoesRooms work pairs looked (EndsCode (Stopped 9 places placed left)) work pairs
+          pub look_full : pairs_of pairs ≤ placed → GoesRooms work pairs looked (EndsCode (Stopped no_place_for_pair places placed left)) work pairs
           look_full l =
               let full : ltb (length table) (pairs_of pairs) ≡ false = le-ltb (length table) (pairs_of pairs) (omega (arith, all_pairs)) in
-              let told : EndsCode (Stopped 9 (length store) (length table) left) ≡ EndsCode (Stopped 9 places placed left)
-              = λ i. EndsCode (Stopped 9 (all_places i) (all_pairs i) left) in
-              unchanged (by_tests equal (sym g ∙ h) full) (subst (TellsGoing (ends (stopped 9 store table left))) told (tells_ends tells_stopped)) refl refl
+              let told : EndsCode (Stopped no_place_for_pair (length store) (length table) left) ≡ EndsCode (Stopped no_place_for_pair places placed left)
+              = λ i. EndsCode (Stopped no_place_for_pair (all_places i) (all_pairs i) left) in
+              unchanged (by_tests equal (sym g ∙ h) full) (subst (TellsGoing (ends (stopped no_place_for_pair store table left))) told (tells_ends tells_stopped)) refl refl

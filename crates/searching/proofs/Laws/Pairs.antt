@@ -15,13 +15,14 @@ use Rattle.pairs.specs.declared.pair.Pair.{Pair}
 use Rattle.pairs.specs.Pair.{first_pairs}
 use Rattle.pairs.specs.Room.{table_in, pairs_of}
 use Rattle.pairs.specs.Laws.Room.{none_stand}
-use Rattle.searching.proofs.Laws.Told.{End}
-use Rattle.searching.proofs.Laws.Told.{Same}
-use Rattle.searching.proofs.Laws.Told.{CodeGoing}
-use Rattle.searching.proofs.Laws.Told.{On, EndsCode}
 use Rattle.searching.specs.Search.{Search, same, Going, look, by_letters, take_pairs, search}
-use Rattle.searching.proofs.Laws.Told.{GoodPairs, TellsEnd, tells_same, GoesRooms, EndsRooms}
-use Rattle.searching.specs.Told.{LegalPairs, found_word}
+use Rattle.searching.specs.Table.{GoodTable}
+use Rattle.searching.specs.Told.{LegalPairs, table_of, found_word}
+use Rattle.searching.specs.Laws.Keeps.{Tabled}
+use Rattle.searching.specs.declared.table.Table.{Table}
+use Rattle.searching.proofs.Laws.Told.{End, Same, CodeGoing, On, EndsCode, GoodPairs, good_pairs, TellsEnd, tells_same, GoesRooms, EndsRooms}
+use Rattle.store.specs.declared.work.Work.{Work}
+use Rattle.store.specs.Work.{store_of, space_of}
 use Rattle.searching.proofs.Laws.Parts.{search_after, turned}
 use Rattle.searching.proofs.Laws.Keeps.{tabled_none, KeepsGoing, look_keeps, by_letters_keeps, take_pairs_keeps}
 use Rattle.searching.proofs.Laws.Rooms.{Stood, stood_first, listed_byte, places_now, pairs_now, store_now, table_now, good_now, good_pairs_now, goes_from, ends_from, WentOn, went_on, went_out, stood_on}
@@ -59,15 +60,15 @@ pub record PairsUnderway (work₀ : List ℕ) (places : ℕ) (pairs₀ : List �
       ≡ take_pairs (pairs_of pairs₀ - n) (places_of work₀) (pairs_of pairs₀) letters n stood.store stood.table left
 
 -- At first none is taken.
-pub pairs_first : (work : List ℕ) (places : ℕ) (pairs : List ℕ) (placed : ℕ) (letters : List ℕ) (budget : ℕ)
-    → GoodStore work places → GoodPairs pairs placed work places
-    → PairsUnderway work places pairs placed letters budget work pairs places placed budget 0
+pub pairs_first : (w : Work) (t : Table) (letters : List ℕ) → Tabled (pairs_of t.room.now) (store_of w) (table_of t)
+    → PairsUnderway w.room.now w.places t.room.now t.pairs letters w.budget w.room.now t.room.now w.places t.pairs w.budget 0
 unfolding stood_first
-pairs_first work places pairs placed letters budget g p =
-    let all : pairs_of pairs ≡ pairs_of pairs - 0 = omega arith in
+pairs_first w t letters d =
+    let few = pairs_of t.room.now in
+    let all : few ≡ few - 0 = omega arith in
     record {
-      stood = stood_first work places pairs placed budget g p;
-      rest = ap (λ (k : ℕ). take_pairs k (places_of work) (pairs_of pairs) letters 0 (store_in work places) (table_in pairs placed) budget) all;
+      stood = stood_first w.room.now w.places t.room.now t.pairs w.budget w.good (good_pairs t.good d);
+      rest = ap (λ (k : ℕ). take_pairs k (space_of w) few letters 0 (store_of w) (table_of t) w.budget) all;
     }
 
 module _ {work₀ : List ℕ} {places : ℕ} {pairs₀ : List ℕ} {placed : ℕ} {letters : List ℕ} {budget : ℕ} {work pairs : List ℕ} {taken standing left n : ℕ}
@@ -139,15 +140,31 @@ module _ {work₀ : List ℕ} {places : ℕ} {pairs₀ : List ℕ} {placed : ℕ
           rw (goes_on ∙ ap (then_take cap few letters (few - suc n) (suc n)) w.is)
           (record { tells = w.tells; work_room = h.work_room; pair_room = h.pair_room })
 
+-- The room of a good table is of legal size.
+pub legal : {room : List ℕ} {pairs : ℕ} → GoodTable room pairs → LegalPairs room
+legal g = record { bytes = g.stands.bytes; short = g.short }
+
 -- The call of a search: no pair stands in the pair room yet.
 pub none_placed : (work : List ℕ) (places : ℕ) (pairs : List ℕ) → LegalPairs pairs → GoodPairs pairs 0 work places
 unfolding first_pairs
 none_placed work places pairs l =
     record { stands = none_stand l.bytes; short = l.short; tabled = tabled_none (pairs_of pairs) (store_in work places) }
 
-module _ (work : List ℕ) (places : ℕ) (pairs letters : List ℕ) (x y budget : ℕ) (good : GoodStore work places) (inside : (x < places) × (y < places))
-    (legal : LegalPairs pairs) (bytes : Bytes letters) {went : CodeGoing} {pairs₁ : List ℕ}
-    (g : GoesRooms work pairs (look (pairs_of pairs) x y 0 0 (found_word (table_in pairs 0) 0 0) (store_in work places) (table_in pairs 0) budget) went work pairs₁) where
+module _ (w : Work) (t : Table) {letters : List ℕ} {x y : ℕ} (inside : (x < w.places) × (y < w.places)) (bytes : Bytes letters) {went : CodeGoing} {pairs₁ : List ℕ}
+    (g : GoesRooms w.room.now t.room.now
+    (look (pairs_of t.room.now) x y 0 0 (found_word (table_in t.room.now 0) 0 0) (store_of w) (table_in t.room.now 0) w.budget) went w.room.now pairs₁) where
+  abbrev work : List ℕ
+  work = w.room.now
+
+  abbrev places : ℕ
+  places = w.places
+
+  abbrev pairs : List ℕ
+  pairs = t.room.now
+
+  abbrev budget : ℕ
+  budget = w.budget
+
   abbrev searched : Search
   searched = search (places_of work) (pairs_of pairs) letters x y (store_in work places) budget
 
@@ -155,12 +172,12 @@ module _ (work : List ℕ) (places : ℕ) (pairs letters : List ℕ) (x y budget
   opening = look (pairs_of pairs) x y 0 0 (found_word (table_in pairs 0) 0 0) (store_in work places) (table_in pairs 0) budget
 
   stood : Stood work places pairs 0 budget work pairs places 0 budget
-  stood = stood_first work places pairs 0 budget good (none_placed work places pairs legal)
+  stood = stood_first work places pairs 0 budget w.good (none_placed work places pairs (legal t.good))
 
   opening_keeps : KeepsGoing (places_of work) (pairs_of pairs) stood.store stood.table budget opening
   unfolding stood stood_first first_pairs
   opening_keeps =
-      look_keeps {room = places_of work} {pairs = pairs_of pairs} x y 0 0 [] budget (room_ready good) (tabled_none (pairs_of pairs) (store_in work places))
+      look_keeps {room = places_of work} {pairs = pairs_of pairs} x y 0 0 [] budget (room_ready w.good) (tabled_none (pairs_of pairs) (store_in work places))
       (in_store work inside.0) (in_store work inside.1) (omega arith) (omega arith)
 
   search_is : searched ≡ then_take (places_of work) (pairs_of pairs) letters (pairs_of pairs) 0 opening
@@ -170,10 +187,10 @@ module _ (work : List ℕ) (places : ℕ) (pairs letters : List ℕ) (x y budget
   -- The opening pair differs, or finds no room.
   pub opening_ended : {end : End} → went ≡ EndsCode end → EndsRooms work pairs searched end work pairs₁
   opening_ended {end} e =
-      let w = went_out g.tells e in
-      let h = rw w.is at g in
-      rw (search_is ∙ ap (then_take (places_of work) (pairs_of pairs) letters (pairs_of pairs) 0) w.is)
-      (record { tells = w.tells; work_room = h.work_room; pair_room = h.pair_room })
+      let o = went_out g.tells e in
+      let h = rw o.is at g in
+      rw (search_is ∙ ap (then_take (places_of work) (pairs_of pairs) letters (pairs_of pairs) 0) o.is)
+      (record { tells = o.tells; work_room = h.work_room; pair_room = h.pair_room })
 
   -- The opening pair is placed.
   module _ {taken placed left : ℕ} (e : went ≡ On taken placed left) where
@@ -191,7 +208,7 @@ module _ (work : List ℕ) (places : ℕ) (pairs letters : List ℕ) (x y budget
         → EndsRooms work pairs searched end work₂ pairs₂
     unfolding stood₁ stood_on
     then_taken h =
-        let w = went_on_here in
-        let keeps = take_pairs_keeps {room = places_of work} {pairs = pairs_of pairs} letters (listed_byte bytes) (pairs_of pairs) 0 left w.kept.kept.ready w.kept.tabled in
+        let o = went_on_here in
+        let keeps = take_pairs_keeps {room = places_of work} {pairs = pairs_of pairs} letters (listed_byte bytes) (pairs_of pairs) 0 left o.kept.kept.ready o.kept.tabled in
         let k = rw (pairs_now stood₁, store_now stood₁, table_now stood₁) at h in
-        rw (search_is ∙ ap (then_take (places_of work) (pairs_of pairs) letters (pairs_of pairs) 0) w.is) (ends_from stood₁ keeps k)
+        rw (search_is ∙ ap (then_take (places_of work) (pairs_of pairs) letters (pairs_of pairs) 0) o.is) (ends_from stood₁ keeps k)

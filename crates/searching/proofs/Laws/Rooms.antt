@@ -18,12 +18,9 @@ use Rattle.pairs.specs.Pair.{pair_at}
 use Rattle.pairs.specs.Room.{table_in, pairs_of, laid_pairs, TableStands}
 use Rattle.pairs.specs.Laws.Pair.{length_first_pairs, FittingPair}
 use Rattle.pairs.specs.Laws.Room.{table_of_laid, laid_laid_pairs, length_laid_pairs, stands_laid, laid_pairs_same}
-use Rattle.searching.proofs.Laws.Told.{End}
-use Rattle.searching.proofs.Laws.Told.{CodeGoing}
-use Rattle.searching.proofs.Laws.Told.{On, EndsCode}
 use Rattle.searching.specs.Search.{Search, Going, on, ends}
-use Rattle.searching.proofs.Laws.Told.{GoodPairs, TellsEnd, TellsGoing, tells_on, tells_ends, end_store, end_table, going_store, going_table, GoesRooms, EndsRooms}
 use Rattle.searching.specs.Laws.Keeps.{Tabled}
+use Rattle.searching.proofs.Laws.Told.{End, CodeGoing, On, EndsCode, GoodPairs, TellsEnd, TellsGoing, tells_on, tells_ends, end_store, end_table, going_store, going_table, GoesRooms, EndsRooms}
 use Rattle.searching.proofs.Laws.Keeps.{KeptBoth, kept_both_refl, kept_both_trans, KeepsSearch, keeps_same, keeps_different, keeps_stopped, KeepsGoing, keeps_on, keeps_ends_different, keeps_ends_stopped}
 
 -- A letter of a list of bytes is a byte.

@@ -1,37 +1,46 @@
 -- `by_letter` derives both places of its pair as the definition does, and looks at the pair that they come to.
-use native.Mathlib.Omega.{arith}
+use Rattle.std.specs.Prelude.{refl}
+use Rattle.std.proofs.Common.{ap}
+use Rattle.std.proofs.lemmas.Result.{err_from_is_err_and}
+use Rattle.derivative.proofs.Laws.Told.{both_of, both_come_room}
+use Rattle.searching.proofs.Laws.Told.{goes_rooms, rooms_go}
 use Rattle.searching.proofs.Laws.Letters.{one_letter, can_derive, can_look, then_looked, then_stopped}
 use Rattle.searching.proofs.taking.by_letter.Goals as goal
 
-pub derive_both-both-requires : goal.derive_both-both-requires
-derive_both-both-requires c =
-    let s = c in
-    let a = s.args in
-    let call =
-    one_letter a.work.now a.places a.pairs.now a.placed a.n a.letter s.requires.good_store s.requires.good_pairs s.requires.n_lt_placed (omega arith) in
-    record { good_store = s.requires.good_store; x_lt_places = can_derive call a.budget c.read-p.ensures }
+pub derive_both-requires : goal.derive_both-requires
+derive_both-requires c =
+    let w = c.args.work.now in
+    let call = one_letter w c.args.table.now c.requires.tabled c.requires.placed c.ranges.letter.fits in
+    can_derive call w.budget c.pair-p.ensures
 
-pub look-requires : goal.look-requires
-look-requires c =
-    let s = c in
-    let a = s.args in
-    let call =
-    one_letter a.work.now a.places a.pairs.now a.placed a.n a.letter s.requires.good_store s.requires.good_pairs s.requires.n_lt_placed (omega arith) in
-    let l = can_look call a.budget c.read-p.ensures c.derive_both-both.ensures c.in-At.is in
-    record { good_store = l.good; x_lt_places = l.inside; good_pairs = l.good_pairs; origin_bound = l.from }
+pub returns-in_err-x-clause-goes : goal.returns-in_err-x-clause-goes
+returns-in_err-x-clause-goes c =
+    let told = err_from_is_err_and c.from_residual.result c.from_residual.ensures.1 in
+    let w = c.args.work.now in
+    let w' = c.derive_both.new.work in
+    let call = one_letter w c.args.table.now c.requires.tabled c.requires.placed c.ranges.letter.fits in
+    rw (told.1, told.2)
+    (rooms_go _ (then_stopped call w.budget c.pair-p.ensures (both_come_room c.derive_both.ensures.comes) (ap (λ r. both_of r w'.places w'.budget) c.in_err-x.was)))
 
-pub returns-in-At : goal.returns-in-At
-returns-in-At c =
-    let s = c in
-    let a = s.args in
-    let call =
-    one_letter a.work.now a.places a.pairs.now a.placed a.n a.letter s.requires.good_store s.requires.good_pairs s.requires.n_lt_placed (omega arith) in
-    then_looked call a.budget c.read-p.ensures c.derive_both-both.ensures c.in-At.is c.look.ensures
+pub look-requires-clause-stand : goal.look-requires-clause-stand
+look-requires-clause-stand c =
+    let w = c.args.work.now in
+    let w' = c.derive_both.new.work in
+    let call = one_letter w c.args.table.now c.requires.tabled c.requires.placed c.ranges.letter.fits in
+    (can_look call w.budget c.pair-p.ensures (both_come_room c.derive_both.ensures.comes) (ap (λ r. both_of r w'.places w'.budget) c.in_ok-x.was)).inside
 
-pub returns-in-Stopped : goal.returns-in-Stopped
-returns-in-Stopped c =
-    let s = c in
-    let a = s.args in
-    let call =
-    one_letter a.work.now a.places a.pairs.now a.placed a.n a.letter s.requires.good_store s.requires.good_pairs s.requires.n_lt_placed (omega arith) in
-    then_stopped call a.budget c.read-p.ensures c.derive_both-both.ensures c.in-Stopped.is
+pub look-requires-clause-tabled : goal.look-requires-clause-tabled
+look-requires-clause-tabled c =
+    let w = c.args.work.now in
+    let w' = c.derive_both.new.work in
+    let call = one_letter w c.args.table.now c.requires.tabled c.requires.placed c.ranges.letter.fits in
+    (can_look call w.budget c.pair-p.ensures (both_come_room c.derive_both.ensures.comes) (ap (λ r. both_of r w'.places w'.budget) c.in_ok-x.was)).good_pairs.tabled
+
+pub returns-clause-goes : goal.returns-clause-goes
+returns-clause-goes c =
+    let w = c.args.work.now in
+    let w' = c.derive_both.new.work in
+    let call = one_letter w c.args.table.now c.requires.tabled c.requires.placed c.ranges.letter.fits in
+    rooms_go _
+    (then_looked call w.budget c.pair-p.ensures (both_come_room c.derive_both.ensures.comes) (ap (λ r. both_of r w'.places w'.budget) c.in_ok-x.was)
+    (goes_rooms c.look.ensures.goes))

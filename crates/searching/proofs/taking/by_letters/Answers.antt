@@ -1,48 +1,46 @@
--- `by_letters` answers as the definition does: with the letters before `at` done, the store and the table that stand in the two rooms are those
--- from which the definition goes on with the rest. The measure is the number of letters that are left.
+-- `by_letters` answers as the definition does: with the letters before this one done, the store and the table that stand in the two rooms are those
+-- from which the definition goes on with the rest.
 use native.Mathlib.Omega.{arith}
-use mathlib.Core.Path.{◌∙◌}
-use Rattle.searching.proofs.Laws.Rooms.{work_as_long, pairs_as_long}
+use Rattle.std.specs.Prelude.{refl}
+use Rattle.std.proofs.Common.{sym, ◌∙◌, ap}
+use Rattle.std.proofs.lemmas.Result.{err_from_is_err_and}
+use Rattle.searching.proofs.Laws.Told.{going_of, goes_rooms, rooms_go}
 use Rattle.searching.proofs.Laws.Letters.{letters_first, letters_last, letter_call, letter_on, letter_ended}
 use Rattle.searching.proofs.taking.by_letters.Goals as goal
 
-pub loop-at-init : goal.loop-at-init
-loop-at-init c =
-    let s = c in
-    let a = s.args in
-    letters_first a.work.now a.places a.pairs.now a.placed a.n a.letters.now a.budget s.requires.good_store s.requires.good_pairs s.requires.n_lt_placed
+pub loop-letter-init : goal.loop-letter-init
+loop-letter-init c = (letters_first c.args.work.now c.args.table.now c.args.letters.now c.requires.tabled c.requires.placed, refl, refl)
 
-pub by_letter-went-requires : goal.by_letter-went-requires
-by_letter-went-requires c =
-    let l = c.loop-at in
-    let call = letter_call l.invariant (omega arith) (c.shared_slice_known-in-loop-at-1.given l.at).fits in
-    record { good_store = call.good; good_pairs = call.good_pairs; n_lt_placed = call.inside }
+pub by_letter-requires-clause-tabled : goal.by_letter-requires-clause-tabled
+by_letter-requires-clause-tabled c =
+    let l = c.loop-letter in
+    (letter_call l.invariant.0 c.loop-letter-test.true (c.type_inv.letters l.letter-index).fits).good_pairs.tabled
 
-pub shape_of-work-in-Ends : goal.shape_of-work-in-Ends
-shape_of-work-in-Ends c =
-    let l = c.loop-at in
-    c.work-1.given ∙ work_as_long l.invariant.stood
+pub by_letter-requires-clause-placed : goal.by_letter-requires-clause-placed
+by_letter-requires-clause-placed c =
+    let l = c.loop-letter in
+    (letter_call l.invariant.0 c.loop-letter-test.true (c.type_inv.letters l.letter-index).fits).inside
 
-pub shape_of-pairs-in-Ends : goal.shape_of-pairs-in-Ends
-shape_of-pairs-in-Ends c =
-    let l = c.loop-at in
-    c.pairs-1.given ∙ pairs_as_long l.invariant.stood
+pub returns-in_err-by_letter-clause-goes : goal.returns-in_err-by_letter-clause-goes
+returns-in_err-by_letter-clause-goes c =
+    let told = err_from_is_err_and c.from_residual.result c.from_residual.ensures.1 in
+    let l = c.loop-letter in
+    let w = c.by_letter.new.work in
+    let t = c.by_letter.new.table in
+    let ended = ap (λ r. going_of r w.places t.pairs w.budget) c.in_err-by_letter.was in
+    rw (told.1, told.2)
+    (rooms_go _ (letter_ended l.invariant.0 c.loop-letter-test.true (c.type_inv.letters l.letter-index).fits (goes_rooms c.by_letter.ensures.goes) ended))
 
-pub returns-in-Ends : goal.returns-in-Ends
-returns-in-Ends c =
-    let l = c.loop-at in
-    letter_ended l.invariant (omega arith) (c.shared_slice_known-in-loop-at-1.given l.at).fits c.by_letter-went.ensures c.in-Ends.is
+pub loop-letter-preserved : goal.loop-letter-preserved
+loop-letter-preserved c =
+    let l = c.loop-letter in
+    let w = c.by_letter.new.work in
+    let t = c.by_letter.new.table in
+    let went = ap (λ r. going_of r w.places t.pairs w.budget) c.in_ok-by_letter.was in (
+      letter_on l.invariant.0 c.loop-letter-test.true (c.type_inv.letters l.letter-index).fits (goes_rooms c.by_letter.ensures.goes) went,
+      c.by_letter.ensures.same_room ∙ l.invariant.1,
+      c.by_letter.ensures.same_pair_room ∙ l.invariant.2,
+    )
 
-pub loop-at-preserved : goal.loop-at-preserved
-loop-at-preserved c =
-    let l = c.loop-at in
-    letter_on l.invariant (omega arith) (c.shared_slice_known-in-loop-at-1.given l.at).fits c.by_letter-went.ensures c.in-On.is
-
-pub shape_of-work : goal.shape_of-work
-shape_of-work c = work_as_long c.loop-at.invariant.stood
-
-pub shape_of-pairs : goal.shape_of-pairs
-shape_of-pairs c = pairs_as_long c.loop-at.invariant.stood
-
-pub returns : goal.returns
-returns c = letters_last c.loop-at.invariant (omega arith)
+pub returns-clause-goes : goal.returns-clause-goes
+returns-clause-goes c = rooms_go _ (letters_last c.loop-letter.invariant.0 c.loop-letter-test.false)
