@@ -252,10 +252,6 @@ module _ {left right work pairs word : List ℕ} {budget : ℕ} {found : Standin
       is_opened : opened_of answer₀ w₁.places ≡ At x y w₁.places
       is_opened = ap (λ (a : Result (ℕ × ℕ) Refusal). opened_of a w₁.places) f
 
-      -- The two places stand in the store.
-      pub both_stand : (x < w₁.places) × (y < w₁.places)
-      both_stand = (can_search c e opens_lent is_opened).1.0
-
       -- What is told of the search is told of the cards.
       pub told_compared : {letters : List ℕ} → letters ≡ tried left right → w₀.budget ≡ budget → (t : Table) → t.room.now ≡ pairs
           → {answer : Comparison} {work₂ pairs₂ word₂ : List ℕ}

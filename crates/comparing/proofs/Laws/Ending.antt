@@ -239,13 +239,6 @@ pub search_made : {w : Work} {t : Table} {letters : List ℕ} {x y : ℕ} → (x
     → Searched w.room.now w.places t.room.now letters x y w.budget (end_of answer w'.places t'.pairs w'.budget) w'.room.now t'.room.now
 search_made {w} {t} i b e = searched w.good i (legal t.good) b (ends_rooms e)
 
--- However it ends, no more visits are left than were given.
-pub none_added : {work : List ℕ} {places : ℕ} {pairs letters : List ℕ} {x y budget : ℕ} (answer : Result (Unit {0}) CodeEnd) (taken placed : ℕ) {left : ℕ}
-    {work' pairs' : List ℕ} → Searched work places pairs letters x y budget (end_of answer taken placed left) work' pairs' → left ≤ budget
-none_added (Ok done) taken placed c = same_left c refl
-none_added (Err (differs from letter left_has)) taken placed c = different_left c refl
-none_added (Err (refused refusal)) taken placed c = stopped_left c refl
-
 -- What is so told, of the code's answer.
 
 pub is_same : {answer : Result (Unit {0}) CodeEnd} {done : Unit {0}} {taken placed left : ℕ} → answer ≡ Ok done

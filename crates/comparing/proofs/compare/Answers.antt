@@ -10,7 +10,7 @@ use Rattle.refusals.specs.Told.{standing_told}
 use Rattle.pairs.specs.Laws.LegalRoom.{legal_pair_room}
 use Rattle.comparing.specs.Compare.{compare_standing}
 use Rattle.comparing.proofs.Laws.Refusals.{Unrefused, unrefused}
-use Rattle.comparing.proofs.Laws.Calling.{Lent, refused_at_once, told_full, both_stand, told_compared}
+use Rattle.comparing.proofs.Laws.Calling.{Lent, refused_at_once, told_full, told_compared}
 use Rattle.comparing.proofs.compare.Goals as goal
 
 -- What is known once the refusals were asked.
@@ -42,15 +42,6 @@ pub open_both-requires : goal.open_both-requires
 open_both-requires c =
     let u = good c.standing.ensures c.in_default.is in
     record { left_good = u.left_good; right_good = u.right_good; begun = c.begin-working.ensures.begun }
-
-pub compare_opened-requires-clause-stand : goal.compare_opened-requires-clause-stand
-compare_opened-requires-clause-stand c =
-    both_stand
-    (lent {word = c.args.word.now} {budget = c.args.budget} (search rules) (search rules) (search rules) (search rules) c.standing.ensures)
-    (ap standing_told c.in_default.is)
-    c.begin-working.ensures.room_after
-    c.open_both.ensures.opens
-    c.in-Ok.is
 
 pub returns-in-Ok : goal.returns-in-Ok
 returns-in-Ok c =

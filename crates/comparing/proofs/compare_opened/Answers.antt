@@ -1,19 +1,12 @@
 -- `compare_opened` tells the end that the search came to; the word of "different" is read off the table that stands in the pair room.
-use Rattle.std.proofs.Common.{ℕ, ap}
-use Rattle.answers.specs.declared.Comparison.{Comparison}
-use Rattle.answers.specs.declared.Comparison.TheVariants.{Refused}
-use Rattle.comparing.proofs.Laws.Ending.{search_made, none_added, is_same, is_different, is_stopped, told_same, told_stopped, can_read_off, told_different, told_short}
+use Rattle.comparing.proofs.Laws.Ending.{search_made, is_same, is_different, is_stopped, told_same, told_stopped, can_read_off, told_different, told_short}
 use Rattle.comparing.proofs.compare_opened.Goals as goal
 
-pub overflow_sub-visits : goal.overflow_sub-visits
-overflow_sub-visits c = none_added c.search-end.result _ _ (search_made c.requires.stand (λ i. (c.type_inv.letters i).fits) c.search-end.ensures.ends)
-
-pub tell_found-requires : goal.tell_found-requires
-tell_found-requires c =
+pub tell_found-requires-clause-origin_bound : goal.tell_found-requires-clause-origin_bound
+tell_found-requires-clause-origin_bound c =
     let search = search_made c.requires.stand (λ i. (c.type_inv.letters i).fits) c.search-end.ensures.ends in
     let end = c.in-Err-Different in
-    let told = can_read_off search (is_different end.is (rw end.is at end.field-0-is)) in
-    record { ordered_pairs = told.0; origin_bound = told.1 }
+    (can_read_off search (is_different end.is (rw end.is at end.field-0-is))).1
 
 pub returns-in-Ok-clause-leaves : goal.returns-in-Ok-clause-leaves
 returns-in-Ok-clause-leaves c =
