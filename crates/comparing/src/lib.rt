@@ -2,25 +2,26 @@
 // The definitions that its promise cites stand in specs/; specs/Lib.antt lists them.
 #![tactic(auto)]
 
-ghost use Rattle.std.specs.Prelude.{◌≡◌, ◌<◌, length};
-ghost use Rattle.store.specs.Room.{store_in, places_of};
-ghost use Rattle.store.specs.Good.{GoodStore};
+ghost use Rattle.std.specs.Prelude.{◌≡◌, ◌-◌, ◌<◌, ◌≤◌, length};
+ghost use Rattle.store.specs.Work.{store_of, space_of};
 ghost use Rattle.pairs.specs.Room.{pairs_of};
 ghost use Rattle.searching.specs.Search.{search};
 ghost use Rattle.comparing.specs.Compare.{of_search};
+ghost use Rattle.searching.specs.Told.{table_of, OrderedPairs, found_word};
 ghost use Rattle.comparing.specs.Promise.{Leaves, Compares};
-ghost use Rattle.searching.specs.Told.{LegalPairs};
+ghost use Rattle.comparing.specs.Told.{Wrote};
 
-use crate::reading_off::{Word, tell_word};
+use crate::reading_off::tell_word;
 use crate::refusing::standing;
 use answers::Comparison;
+use loading::beginning::begin;
 use pairs::letters::tried;
-use pairs::opening::{Opened, open_both};
-use refusals::Standing;
+use pairs::opening::open_both;
 use refusals::limits::MOST_LETTERS;
-use refusals::numbers::NO_FREE_PLACE;
 use searching::going::End;
+use searching::table::Table;
 use searching::taking::search;
+use store::work::Work;
 
 pub mod reading_off;
 pub mod refusing;
@@ -36,53 +37,62 @@ pub fn compare(
 ) -> Comparison
     ensures { Compares left.now right.now work.old pairs.old word.old budget result work.new pairs.new word.new }
 {
-    let found = standing(left, right, work.len(), pairs.len());
-    if let Standing::Refused(number) = found {
-        return Comparison::Refused(number, 0, 0, 0);
+    if let Err(refusal) = standing(left, right, work.len(), pairs.len()) {
+        return Comparison::Refused(refusal.number(), 0, 0, 0);
     }
-    let mut letters = [0u8; MOST_LETTERS];
-    let count = tried(left, right, &mut letters);
-    let opened = open_both(left, right, work);
-    match opened {
-        Opened::At(x, y, taken) => {
-            compare_opened(work, taken, pairs, word, &letters[0..count], x, y, budget)
-        }
-        Opened::Full(taken) => Comparison::Refused(NO_FREE_PLACE, 0, taken, 0),
+    let mut space = [0u8; MOST_LETTERS];
+    let letters = tried(left, right, &mut space);
+    let mut working = begin(work, budget);
+    let mut table = Table::empty(pairs);
+    match open_both(&mut working, left, right) {
+        Ok((x, y)) => compare_opened(&mut working, &mut table, word, letters, x, y),
+        Err(refusal) => Comparison::Refused(refusal.number(), 0, working.places, 0),
     }
 }
 
 // Searches from the opening pair, and tells the end.
 fn compare_opened(
-    work: &mut [u8],
-    places: usize,
-    pairs: &mut [u8],
+    work: &mut Work<'_>,
+    table: &mut Table<'_>,
     word: &mut [u8],
     letters: &[u8],
     x: usize,
     y: usize,
-    budget: u32,
 ) -> Comparison
-    requires good_store { GoodStore work.old places }
-    requires x_lt_places { (x < places) × (y < places) }
-    requires legal_pairs { LegalPairs pairs.old }
-    ensures { Leaves work.old pairs.old word.old (of_search (length word.old) budget (search (places_of work.old) (pairs_of pairs.old) letters.now x y (store_in work.old places) budget)) result work.new pairs.new word.new }
+    requires stand { (x < work.old.places) × (y < work.old.places) }
+    requires empty { table.old.pairs ≡ 0 }
+    ensures same_room { work.new.room.ghost_name ≡ work.old.room.ghost_name }
+    ensures same_pair_room { table.new.room.ghost_name ≡ table.old.room.ghost_name }
+    ensures leaves { Leaves work.old.room.now table.old.room.now word.old (of_search (length word.old) work.old.budget (search (space_of work.old) (pairs_of table.old.room.now) letters.now x y (store_of work.old) work.old.budget)) result work.new.room.now table.new.room.now word.new }
 {
-    let end = search(work, places, pairs, letters, x, y, budget);
+    let budget = work.budget;
+    let end = search(work, table, letters, x, y);
+    let visits = budget - work.budget;
     match end {
-        End::Same(taken, placed, left) => Comparison::Same(placed, taken, budget - left),
-        End::Different(from, letter, left_has, taken, placed, left) => {
-            let told = tell_word(pairs, placed, from, letter, word);
-            match told {
-                Word::Written(length) => {
-                    Comparison::Different(length, left_has, placed, taken, budget - left)
-                }
-                Word::Short(wanted) => {
-                    Comparison::WordRoomShort(wanted, placed, taken, budget - left)
-                }
+        Ok(()) => Comparison::Same(table.pairs, work.places, visits),
+        Err(
+            End::Different {
+                origin,
+                letter,
+                left_has,
+            },
+        ) => match tell_found(table, origin, letter, word) {
+            Ok(length) => {
+                Comparison::Different(length, left_has, table.pairs, work.places, visits)
             }
-        }
-        End::Stopped(number, taken, placed, left) => {
-            Comparison::Refused(number, placed, taken, budget - left)
+            Err(wanted) => Comparison::WordRoomShort(wanted, table.pairs, work.places, visits),
+        },
+        Err(End::Refused(refusal)) => {
+            Comparison::Refused(refusal.number(), table.pairs, work.places, visits)
         }
     }
+}
+
+// Tells and writes the word at which the search ended, read off the pairs of the table.
+fn tell_found(table: &Table<'_>, origin: usize, letter: u8, word: &mut [u8]) -> Result<usize, usize>
+    requires ordered_pairs { OrderedPairs table.now.room.now table.now.pairs }
+    requires origin_bound { origin ≤ table.now.pairs - 1 }
+    ensures { Wrote (found_word (table_of table.now) origin letter) word.old result word.new }
+{
+    tell_word(table.room, table.pairs, origin, letter, word)
 }

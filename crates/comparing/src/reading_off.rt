@@ -7,28 +7,29 @@ ghost use Rattle.searching.specs.Told.{OrderedPairs, found_word};
 
 use pairs::pair::read;
 
-// The word is written at the start of the word room, and is so long; or the word room is too short for a word so long.
-#[derive(Clone, Copy)]
-pub enum Word {
-    Written(usize),
-    Short(usize),
-}
-
-// The word of a pair that is reached from the pair numbered `from` by a letter; the empty word where no pair is placed.
-pub fn tell_word(pairs: &[u8], placed: usize, from: usize, letter: u8, word: &mut [u8]) -> Word
+// Writes the word of a pair that is reached from the pair numbered `from` by a letter at the start of the word room, and tells its length; the
+// empty word where no pair is placed. Or the word room is too short for it: then the length wanted is told.
+// The pairs are a room and their number here, and no `Table`: less is asked of them than a table promises.
+pub fn tell_word(
+    pairs: &[u8],
+    placed: usize,
+    from: usize,
+    letter: u8,
+    word: &mut [u8],
+) -> Result<usize, usize>
     requires ordered_pairs { OrderedPairs pairs.now placed }
     requires from_bound { from ≤ placed - 1 }
     ensures { Wrote (found_word (table_in pairs.now placed) from letter) word.old result word.new }
 {
     if placed == 0 {
-        return Word::Written(0);
+        return Ok(0);
     }
     let size = word_length(pairs, placed, from) + 1;
     if word.len() < size {
-        return Word::Short(size);
+        return Err(size);
     }
     write_word(pairs, placed, from, letter, word, size);
-    Word::Written(size)
+    Ok(size)
 }
 
 // The length of the word of the pair numbered `from`.
@@ -39,6 +40,7 @@ fn word_length(pairs: &[u8], placed: usize, from: usize) -> usize
 {
     let mut at = from;
     let mut count = 0;
+    // A `while`: each pair tells the one that it came from, down to number 0, and no index is counted.
     while at != 0 {
         let p = read(pairs, at);
         at = p.origin as usize;
@@ -58,6 +60,7 @@ fn write_word(pairs: &[u8], placed: usize, from: usize, letter: u8, word: &mut [
     let mut end = size - 1;
     word[end] = letter;
     let mut at = from;
+    // A `while`: each pair tells the one that it came from, down to number 0, and no index is counted.
     while at != 0 {
         let p = read(pairs, at);
         end -= 1;

@@ -1,36 +1,44 @@
 -- The call `compare`, by its parts: refused at once it leaves all rooms as lent; else it opens as the definition does, and searches from the opening
 -- pair in the store that then stands in the work room; and what is so told is true.
-use Rattle.std.specs.Prelude.{ℕ, ◌-◌, ◌<◌, ◌≤◌, Bool, true, false, List, [], ◌≡◌, ltb, take}
+use Rattle.std.specs.Prelude.{ℕ, ◌-◌, ◌/◌, ◌<◌, ◌≤◌, Bool, true, false, List, [], ◌≡◌, ltb}
 use Rattle.std.proofs.Common.{arith, sym, ◌∙◌, ap₂, subst}
 use Rattle.std.proofs.Math.Path.{refl, ap}
 use Rattle.std.proofs.Math.ListN.{length}
 use Rattle.language.specs.Word.{Bytes}
 use Rattle.records.specs.declared.record.Record.{Record}
+use Rattle.std.specs.declared.result.Result.{Result}
+use Rattle.std.specs.declared.result.Result.TheVariants.{Ok, Err}
+use Rattle.refusals.specs.declared.refusal.Refusal.{Refusal}
+use Rattle.refusals.specs.Number.{number}
 use Rattle.refusals.specs.Order.{Standing}
 use Rattle.refusals.specs.Order.{Good, Refused}
 use Rattle.language.specs.Language.{language}
 use Rattle.records.specs.Record.{records, run_of}
 use Rattle.cards.specs.Meaning.{card_pattern}
 use Rattle.store.specs.Room.{store_in, places_of, laid, fresh_store}
+use Rattle.store.specs.declared.work.Work.{Work}
+use Rattle.store.specs.Work.{store_of, space_of}
 use Rattle.store.specs.Good.{GoodStore}
 use Rattle.store.proofs.Laws.Room.{laid_laid}
 use Rattle.store.specs.Laws.Wall.{Kept}
 use Rattle.store.proofs.Laws.Wall.{grows_length}
 use Rattle.store.proofs.Laws.LegalRoom.{LegalRoom, legal_room}
 use Rattle.store.proofs.Laws.GoodRoom.{places_after, store_after}
-use Rattle.loading.proofs.Laws.FreshRoom.{grown_good}
+use Rattle.loading.proofs.Laws.FreshRoom.{length_fresh, grown_good}
+use Rattle.pairs.specs.Told.{Opens}
 use Rattle.pairs.specs.Laws.Told.{Opened}
 use Rattle.pairs.specs.Laws.Told.{OpenedAt as At, NotOpened as Full}
 use Rattle.pairs.specs.Pair.{run_of_pairs}
 use Rattle.pairs.specs.Room.{pairs_of}
 use Rattle.pairs.specs.Tried.{tried}
 use Rattle.pairs.specs.Opening.{Opening, opened, unopened, open_both, after_opening}
-use Rattle.pairs.specs.Laws.Told.{CanOpenRoom, told_opening, OpensRoom}
+use Rattle.pairs.specs.Laws.Told.{CanOpenRoom, told_opening, OpensRoom, opened_of, opens_room, opening_full_by}
 use Rattle.pairs.specs.Laws.Tried.{tried_bytes}
 use Rattle.pairs.specs.Laws.LegalRoom.{legal_pair_room}
 use Rattle.pairs.specs.Laws.Opening.{OpenLaw, both_opened, was_filled, open_law}
 use Rattle.answers.specs.declared.Comparison.{Comparison}
 use Rattle.answers.specs.declared.Comparison.TheVariants.{Refused as RefusedComparison}
+use Rattle.searching.specs.declared.table.Table.{Table}
 use Rattle.searching.specs.Search.{Search, same, different, stopped, search}
 use Rattle.answers.specs.Comparing.{Told}
 use Rattle.comparing.specs.Compare.{compare_standing, Outcome, of_word, of_search, search_opened, compare_by, compare_outcome}
@@ -50,10 +58,6 @@ outcome_store word budget (different w left_has store table left) = go (ltb word
     go : (short : Bool) → (of_word w left_has store table (budget - left) short).store ≡ store
     go true = refl
     go false = refl
-
--- A part of a list that starts at its first entry.
-pub from_first : (n : ℕ) (list : List ℕ) {part : List ℕ} → take n list ≡ part → take (n - 0) list ≡ part
-from_first n list e = let whole : n - 0 ≡ n = omega arith in ap (λ (k : ℕ). take k list) whole ∙ e
 
 -- What was lent, and what examining it found.
 pub record Lent (left right work pairs word : List ℕ) (budget : ℕ) (found : Standing) : Type 0 where
@@ -219,3 +223,40 @@ module _ {left right work pairs word : List ℕ} {budget : ℕ} {found : Standin
             → letters ≡ tried left right
             → Compares left right work pairs word budget answer work₂ pairs₂ word₂
         compared_with letters j t = compared t j
+
+-- The same of what the call works with: the fresh store is laid in its work room, and opening and the search go on from there.
+module _ {left right work pairs word : List ℕ} {budget : ℕ} {found : Standing} (c : Lent left right work pairs word budget found) (e : found ≡ Good) where
+  same_space : (w₀ : Work) → w₀.room.now ≡ laid fresh_store work → space_of w₀ ≡ places_of work
+  same_space w₀ b = ap places_of b ∙ ap (λ (n : ℕ). n / 8) (length_fresh work (legal c e).enough)
+
+  -- Opening leaves a store that covers the fresh one.
+  covers_fresh : {o : Opening} → OpenLaw left right (places_of work) o → length fresh_store ≤ length (after_opening o)
+  covers_fresh (both_opened h) = grows_length h.kept.grows
+  covers_fresh (was_filled h) = grows_length h.kept.grows
+
+  module _ {w₀ : Work} (b : w₀.room.now ≡ laid fresh_store work) {answer₀ : Result (ℕ × ℕ) Refusal} {w₁ : Work}
+      (o : Opens w₀ (open_both (space_of w₀) (records left) (records right)) answer₀ w₁) where
+    opens_lent : OpensRoom work (opens c e) (opened_of answer₀ w₁.places) w₁.room.now
+    opens_lent =
+        let k = rw (same_space w₀ b, b) at (opens_room o) in
+        record { answers = k.answers; leaves = k.leaves ∙ laid_laid fresh_store (after_opening (opens c e)) work (covers_fresh (law c e)) }
+
+    -- The room is full before the search begins.
+    pub told_full : {refusal : Refusal} → answer₀ ≡ Err refusal → {n : ℕ} → n ≡ number refusal → {work' pairs' : List ℕ} → work' ≡ w₁.room.now → pairs' ≡ pairs
+        → Compares left right work pairs word budget (RefusedComparison n 0 w₁.places 0) work' pairs' word
+    told_full f m r q =
+        let full = opening_full_by (open_both (space_of w₀) (records left) (records right)) (sym f ∙ o.answers) in
+        rw (m, full, r, q) (full_in_opening c e opens_lent (ap (λ (a : Result (ℕ × ℕ) Refusal). opened_of a w₁.places) f))
+
+    module _ {x y : ℕ} (f : answer₀ ≡ Ok (x, y)) where
+      is_opened : opened_of answer₀ w₁.places ≡ At x y w₁.places
+      is_opened = ap (λ (a : Result (ℕ × ℕ) Refusal). opened_of a w₁.places) f
+
+      -- What is told of the search is told of the cards.
+      pub told_compared : {letters : List ℕ} → letters ≡ tried left right → w₀.budget ≡ budget → (t : Table) → t.room.now ≡ pairs
+          → {answer : Comparison} {work₂ pairs₂ word₂ : List ℕ}
+          → Leaves w₁.room.now t.room.now word
+          (of_search (length word) w₁.budget (search (space_of w₁) (pairs_of t.room.now) letters x y (store_of w₁) w₁.budget)) answer work₂ pairs₂ word₂
+          → {work' pairs' : List ℕ} → work' ≡ work₂ → pairs' ≡ pairs₂
+          → Compares left right work pairs word budget answer work' pairs' word₂
+      told_compared t p table q j r s = rw (r, s) (compared_with c e opens_lent is_opened _ (rw (q, o.unspent ∙ p) at j) t)

@@ -3,7 +3,11 @@ use Rattle.std.specs.Prelude.{ℕ, ◌-◌, ◌*◌, ◌<◌, ◌≤◌, Bool, L
 use Rattle.std.proofs.Common.{arith, ◌∙◌, ap, ap₂, lt-ltb, le-ltb}
 use Rattle.language.specs.Word.{Bytes}
 use Rattle.language.proofs.Laws.Words.{bytes_all}
+use Rattle.refusals.specs.declared.refusal.Refusal.{Refusal}
+use Rattle.refusals.specs.Number.{number}
 use Rattle.records.specs.declared.record.Record.{Record}
+use Rattle.store.specs.declared.work.Work.{Work}
+use Rattle.store.specs.Work.{store_of, space_of}
 use Rattle.store.specs.Room.{store_in, places_of, laid}
 use Rattle.store.specs.Good.{GoodStore}
 use Rattle.store.proofs.Laws.GoodRoom.{room_ready}
@@ -11,20 +15,24 @@ use Rattle.derivative.proofs.Laws.Rooms.{in_store}
 use Rattle.pairs.specs.declared.pair.Pair.{Pair}
 use Rattle.pairs.specs.Room.{table_in, pairs_of, laid_pairs}
 use Rattle.pairs.specs.Laws.Room.{table_of_laid, length_laid_pairs}
+use Rattle.searching.specs.declared.going.End.{End as CodeEnd}
+use Rattle.searching.specs.declared.going.End.TheVariants.{Different as differs, Refused as refused}
+use Rattle.searching.specs.declared.table.Table.{Table}
 use Rattle.searching.proofs.Laws.Told.{End}
 use Rattle.searching.proofs.Laws.Told.{Same, Different, Stopped}
-use Rattle.comparing.specs.declared.reading_off.Word.{Word as CodeWord}
-use Rattle.comparing.specs.declared.reading_off.Word.TheVariants.{Written, Short}
+use Rattle.std.specs.declared.result.Result.{Result}
+use Rattle.std.specs.declared.result.Result.TheVariants.{Ok, Err}
 use Rattle.answers.specs.declared.Comparison.TheVariants.{Same as SameTold, Different as DifferentTold, Refused, WordRoomShort}
 use Rattle.searching.specs.Search.{Search, different, search}
 use Rattle.answers.specs.Comparing.{are_different, word_room_short}
 use Rattle.comparing.specs.Compare.{Outcome, of_word, of_search}
 use Rattle.comparing.specs.Promise.{Leaves}
 use Rattle.comparing.specs.Told.{Wrote, was_written, was_short}
-use Rattle.searching.proofs.Laws.Told.{TellsEnd, tells_same, tells_different, tells_stopped, end_store, end_table, EndsRooms}
-use Rattle.searching.specs.Told.{LegalPairs, OrderedPairs, found_word}
+use Rattle.searching.proofs.Laws.Told.{TellsEnd, tells_same, tells_different, tells_stopped, end_store, end_table, EndsRooms, end_of, ends_rooms}
+use Rattle.searching.specs.Told.{LegalPairs, OrderedPairs, found_word, Ends}
 use Rattle.searching.specs.Laws.Words.{Ordered}
 use Rattle.searching.proofs.Laws.Keeps.{KeepsSearch, keeps_same, keeps_different, keeps_stopped, search_keeps}
+use Rattle.searching.proofs.Laws.Pairs.{legal}
 use Rattle.searching.proofs.Laws.Rooms.{listed_byte}
 
 -- A search that was made in two rooms, with what the code told of it.
@@ -175,7 +183,7 @@ module _ {work : List ℕ} {places : ℕ} {pairs letters : List ℕ} {x y budget
         (record { fits = omega (arith, d.placed_is); few = omega (arith, d.placed_is); ordered = rw table_there d.ordered }, omega (arith, d.placed_is))
 
     -- The word was told.
-    module _ (word : List ℕ) {told-word : CodeWord} {word' : List ℕ} (w : Wrote (found_word (table_in pairs' placed) from letter) word told-word word') where
+    module _ (word : List ℕ) {told-word : Result ℕ ℕ} {word' : List ℕ} (w : Wrote (found_word (table_in pairs' placed) from letter) word told-word word') where
       wrote : Wrote ending.word word told-word word'
       wrote = rw (table_there, ← ending.word_is) at w
 
@@ -185,14 +193,14 @@ module _ {work : List ℕ} {places : ℕ} {pairs letters : List ℕ} {x y budget
       outcome_is : of_search (length word) budget found ≡ outcome_by (ltb (length word) (length ending.word))
       outcome_is = ap (of_search (length word) budget) ending.is
 
-      not_both_words : {n m : ℕ} {t : CodeWord} → t ≡ Written n → t ≡ Short m → ⊥
+      not_both_words : {n m : ℕ} {t : Result ℕ ℕ} → t ≡ Ok n → t ≡ Err m → ⊥
       not_both_words p q = let z : ◌≡◌ {A = ℕ} 0 1 = cc in omega arith
 
-      pub told_different : {n : ℕ} → told-word ≡ Written n
+      pub told_different : {n : ℕ} → told-word ≡ Ok n
           → Leaves work pairs word (of_search (length word) budget found) (DifferentTold n left_has placed taken (budget - left)) work' pairs' word'
       told_different {n} f = go wrote f
         where
-          go : {t : CodeWord} {v : List ℕ} → Wrote ending.word word t v → t ≡ Written n
+          go : {t : Result ℕ ℕ} {v : List ℕ} → Wrote ending.word word t v → t ≡ Ok n
               → Leaves work pairs word (of_search (length word) budget found) (DifferentTold n left_has placed taken (budget - left)) work' pairs' v
           go (was_written l r) g =
               let i : n ≡ length ending.word = cc in
@@ -206,11 +214,11 @@ module _ {work : List ℕ} {places : ℕ} {pairs letters : List ℕ} {x y budget
               })
           go (was_short l) g = absurd (not_both_words g refl)
 
-      pub told_short : {n : ℕ} → told-word ≡ Short n
+      pub told_short : {n : ℕ} → told-word ≡ Err n
           → Leaves work pairs word (of_search (length word) budget found) (WordRoomShort n placed taken (budget - left)) work' pairs' word'
       told_short {n} f = go wrote f
         where
-          go : {t : CodeWord} {v : List ℕ} → Wrote ending.word word t v → t ≡ Short n
+          go : {t : Result ℕ ℕ} {v : List ℕ} → Wrote ending.word word t v → t ≡ Err n
               → Leaves work pairs word (of_search (length word) budget found) (WordRoomShort n placed taken (budget - left)) work' pairs' v
           go (was_short l) g =
               let i : n ≡ length ending.word = cc in
@@ -223,3 +231,24 @@ module _ {work : List ℕ} {places : ℕ} {pairs letters : List ℕ} {x y budget
                 word_room = refl;
               })
           go (was_written l r) g = absurd (not_both_words refl g)
+
+-- The search that the code made, over what it works with and its table.
+pub search_made : {w : Work} {t : Table} {letters : List ℕ} {x y : ℕ} → (x < w.places) × (y < w.places) → ((i : ℕ) → get_or letters i 0 < 256)
+    → {answer : Result (Unit {0}) CodeEnd} {w' : Work} {t' : Table}
+    → Ends w t (search (space_of w) (pairs_of t.room.now) letters x y (store_of w) w.budget) answer w' t'
+    → Searched w.room.now w.places t.room.now letters x y w.budget (end_of answer w'.places t'.pairs w'.budget) w'.room.now t'.room.now
+search_made {w} {t} i b e = searched w.good i (legal t.good) b (ends_rooms e)
+
+-- What is so told, of the code's answer.
+
+pub is_same : {answer : Result (Unit {0}) CodeEnd} {done : Unit {0}} {taken placed left : ℕ} → answer ≡ Ok done
+    → end_of answer taken placed left ≡ Same taken placed left
+is_same {taken = n} {placed = m} {left = b} e = ap (λ (a : Result (Unit {0}) CodeEnd). end_of a n m b) e
+
+pub is_different : {answer : Result (Unit {0}) CodeEnd} {end : CodeEnd} {from letter : ℕ} {left_has : Bool} {taken placed left : ℕ} → answer ≡ Err end
+    → end ≡ differs from letter left_has → end_of answer taken placed left ≡ Different from letter left_has taken placed left
+is_different {taken = n} {placed = m} {left = b} e f = ap (λ (a : Result (Unit {0}) CodeEnd). end_of a n m b) (e ∙ ap Err f)
+
+pub is_stopped : {answer : Result (Unit {0}) CodeEnd} {end : CodeEnd} {refusal : Refusal} {taken placed left : ℕ} → answer ≡ Err end
+    → end ≡ refused refusal → end_of answer taken placed left ≡ Stopped (number refusal) taken placed left
+is_stopped {taken = n} {placed = m} {left = b} e f = ap (λ (a : Result (Unit {0}) CodeEnd). end_of a n m b) (e ∙ ap Err f)

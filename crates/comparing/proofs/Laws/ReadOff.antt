@@ -7,7 +7,7 @@ use Rattle.pairs.specs.declared.pair.Pair.{Pair}
 use Rattle.pairs.specs.Pair.{first_pairs, pair_record, pair_at}
 use Rattle.pairs.specs.Room.{table_in}
 use Rattle.pairs.specs.Laws.Pair.{length_first_pairs, first_pair_at}
-use Rattle.comparing.specs.declared.reading_off.Word.TheVariants.{Written, Short}
+use Rattle.std.specs.declared.result.Result.TheVariants.{Ok, Err}
 use Rattle.searching.specs.ReadOff.{word_to, word_of}
 use Rattle.comparing.specs.Told.{Wrote, was_written, was_short}
 use Rattle.searching.specs.Told.{OrderedPairs, found_word}
@@ -147,10 +147,10 @@ whole_written {pairs} {placed} {from} word₀ size letter w e o l =
 
 -- What is told of the word. Where no pair is placed the word is empty, and nothing is written.
 pub told_none : (pairs : List ℕ) (placed from letter : ℕ) (word : List ℕ) → placed ≡ 0
-    → Wrote (found_word (table_in pairs placed) from letter) word (Written 0) word
+    → Wrote (found_word (table_in pairs placed) from letter) word (Ok 0) word
 unfolding first_pairs
 told_none pairs placed from letter word e =
-    subst (λ (n : ℕ). Wrote (found_word (table_in pairs n) from letter) word (Written 0) word) (sym e) (was_written (omega arith) refl)
+    subst (λ (n : ℕ). Wrote (found_word (table_in pairs n) from letter) word (Ok 0) word) (sym e) (was_written (omega arith) refl)
 
 -- Else the word is that of a pair and one letter.
 found_word_is : (pairs : List ℕ) (placed from letter : ℕ) → from < placed
@@ -171,15 +171,15 @@ module _ (pairs : List ℕ) (placed from letter : ℕ) (word : List ℕ) (l : fr
       ∙ omega arith
 
   -- The word room is too short for it.
-  pub told_short : length word < size → Wrote found word (Short size) word
-  told_short m = subst (λ (n : ℕ). Wrote found word (Short n) word) so_long (was_short (omega (arith, so_long)))
+  pub told_short : length word < size → Wrote found word (Err size) word
+  told_short m = subst (λ (n : ℕ). Wrote found word (Err n) word) so_long (was_short (omega (arith, so_long)))
 
   -- It is written.
   pub told_written : size ≤ length word → {word' : List ℕ} → word' ≡ word_of (table_in pairs placed) from ++ letter ∷ drop size word
-      → Wrote found word (Written size) word'
+      → Wrote found word (Ok size) word'
   told_written m {word'} r =
       let is = found_word_is pairs placed from letter l in
-      subst (λ (n : ℕ). Wrote found word (Written n) word') so_long
+      subst (λ (n : ℕ). Wrote found word (Ok n) word') so_long
       (was_written (omega (arith, so_long))
       (r
       ∙ sym (append_assoc (word_of (table_in pairs placed) from) (letter ∷ []) (drop size word))

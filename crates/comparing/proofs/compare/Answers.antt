@@ -1,12 +1,16 @@
 -- `compare` comes to its outcome: refused at once it tells that; else it opens the two cards and searches as the definition does, and what is so
 -- told is true.
-use native.Mathlib.Omega.{arith}
-use Rattle.std.proofs.Common.{ℕ, ◌<◌, ◌≡◌, List, get_or, length}
-use Rattle.refusals.specs.Order.{Standing}
-use Rattle.comparing.specs.Compare.{compare_standing}
+use Rattle.std.proofs.Common.{rules, ℕ, List, ◌≡◌, ◌<◌, ◌∙◌, get_or, length, ap, sym}
+use Rattle.std.specs.declared.result.Result.{Result}
+use Rattle.std.specs.declared.result.Result.TheVariants.{Ok}
 use Rattle.language.proofs.Laws.Words.{bytes_all}
-use Rattle.pairs.specs.Laws.Tried.{tried_few}
-use Rattle.comparing.proofs.Laws.Calling.{Lent, refused_at_once, can_open, full_in_opening, from_first, can_search, compared_with}
+use Rattle.refusals.specs.declared.refusal.Refusal.{Refusal}
+use Rattle.refusals.specs.Order.{Standing}
+use Rattle.refusals.specs.Told.{standing_told}
+use Rattle.pairs.specs.Laws.LegalRoom.{legal_pair_room}
+use Rattle.comparing.specs.Compare.{compare_standing}
+use Rattle.comparing.proofs.Laws.Refusals.{Unrefused, unrefused}
+use Rattle.comparing.proofs.Laws.Calling.{Lent, refused_at_once, told_full, told_compared}
 use Rattle.comparing.proofs.compare.Goals as goal
 
 -- What is known once the refusals were asked.
@@ -16,29 +20,53 @@ lent : {left right work pairs word : List ℕ} {budget : ℕ} {found : Standing}
 lent {left} {right} {work} {pairs} a b d e f =
     record { lefts = bytes_all left a; rights = bytes_all right b; works = bytes_all work d; pair_bytes = bytes_all pairs e; stands = f }
 
-pub returns-in-Refused : goal.returns-in-Refused
-returns-in-Refused c = refused_at_once (lent {word = c.args.word.now} {budget = c.args.budget} (λ i. (c.shared_slice_known-1.given i).fits) (λ i. (c.shared_slice_known-2-1.given i).fits) (λ i. (c.slice_known-1.given i).fits) (λ i. (c.slice_known-2-1.given i).fits) c.standing-found.ensures) c.in-Refused.is
+-- No refusal was due.
+good : {left right : List ℕ} {work pairs : ℕ} {answer : Result (Unit {0}) Refusal} {done : Unit {0}}
+    → standing_told answer ≡ compare_standing left right work pairs → answer ≡ Ok done → Unrefused left right work pairs
+good {left} {right} {work} {pairs} e f = unrefused left right work pairs (sym e ∙ ap standing_told f)
 
-pub open_both-opened-requires : goal.open_both-opened-requires
-open_both-opened-requires c = can_open (lent {word = c.args.word.now} {budget = c.args.budget} (λ i. (c.shared_slice_known-1.given i).fits) (λ i. (c.shared_slice_known-2-1.given i).fits) (λ i. (c.slice_known-1.given i).fits) (λ i. (c.slice_known-2-1.given i).fits) c.standing-found.ensures) c.in_default.is
+pub returns-in-Err : goal.returns-in-Err
+returns-in-Err c =
+    rw c.number.ensures
+    (refused_at_once
+    (lent {word = c.args.word.now} {budget = c.args.budget} (search rules) (search rules) (search rules) (search rules) c.standing.ensures)
+    (ap standing_told c.in-Err.is))
 
-pub slice_bounds-compare_opened-end : goal.slice_bounds-compare_opened-end
-slice_bounds-compare_opened-end c =
-    let a = c.args in
-    omega (arith, tried_few a.left.now a.right.now, c.tried-count.ensures.value)
+pub begin-working-requires : goal.begin-working-requires
+begin-working-requires c = (good c.standing.ensures c.in_default.is).room_legal
 
-pub compare_opened-requires : goal.compare_opened-requires
-compare_opened-requires c =
-    let told = can_search (lent {word = c.args.word.now} {budget = c.args.budget} (λ i. (c.shared_slice_known-1.given i).fits) (λ i. (c.shared_slice_known-2-1.given i).fits) (λ i. (c.slice_known-1.given i).fits) (λ i. (c.slice_known-2-1.given i).fits) c.standing-found.ensures) c.in_default.is c.open_both-opened.ensures c.in-At.is in
-    record { good_store = told.0; x_lt_places = told.1.0; legal_pairs = told.1.1 }
+pub empty-table-requires : goal.empty-table-requires
+empty-table-requires c = (legal_pair_room _ (good c.standing.ensures c.in_default.is).pair_room_legal).not_large
 
-pub returns-in-At : goal.returns-in-At
-returns-in-At c =
-    compared_with (lent {word = c.args.word.now} {budget = c.args.budget} (λ i. (c.shared_slice_known-1.given i).fits) (λ i. (c.shared_slice_known-2-1.given i).fits) (λ i. (c.slice_known-1.given i).fits) (λ i. (c.slice_known-2-1.given i).fits) c.standing-found.ensures) c.in_default.is c.open_both-opened.ensures c.in-At.is
-    _
-    c.compare_opened.ensures
-    (from_first c.tried-count.result _ c.tried-count.ensures.letters_after)
+pub open_both-requires : goal.open_both-requires
+open_both-requires c =
+    let u = good c.standing.ensures c.in_default.is in
+    record { left_good = u.left_good; right_good = u.right_good; begun = c.begin-working.ensures.begun }
 
-pub returns-in-Full : goal.returns-in-Full
-returns-in-Full c =
-    full_in_opening (lent {word = c.args.word.now} {budget = c.args.budget} (λ i. (c.shared_slice_known-1.given i).fits) (λ i. (c.shared_slice_known-2-1.given i).fits) (λ i. (c.slice_known-1.given i).fits) (λ i. (c.slice_known-2-1.given i).fits) c.standing-found.ensures) c.in_default.is c.open_both-opened.ensures c.in-Full.is
+pub returns-in-Ok : goal.returns-in-Ok
+returns-in-Ok c =
+    told_compared
+    (lent {word = c.args.word.now} {budget = c.args.budget} (search rules) (search rules) (search rules) (search rules) c.standing.ensures)
+    (ap standing_told c.in_default.is)
+    c.begin-working.ensures.room_after
+    c.open_both.ensures.opens
+    c.in-Ok.is
+    c.tried-letters.ensures
+    c.begin-working.ensures.budget
+    c.empty-table.result
+    c.empty-table.ensures.room_as_lent
+    c.compare_opened.ensures.leaves
+    (search rules)
+    (search rules)
+
+pub returns-in-Err-open_both : goal.returns-in-Err-open_both
+returns-in-Err-open_both c =
+    told_full
+    (lent {word = c.args.word.now} {budget = c.args.budget} (search rules) (search rules) (search rules) (search rules) c.standing.ensures)
+    (ap standing_told c.in_default.is)
+    c.begin-working.ensures.room_after
+    c.open_both.ensures.opens
+    c.in-Err-open_both.is
+    c.number-in-Err-open_both.ensures
+    (search rules)
+    (search rules)

@@ -1,76 +1,32 @@
 -- `compare_opened` tells the end that the search came to; the word of "different" is read off the table that stands in the pair room.
-use Rattle.comparing.proofs.Laws.Ending.{searched, same_left, told_same, stopped_left, told_stopped, different_left, can_read_off, told_different, told_short}
+use Rattle.comparing.proofs.Laws.Ending.{search_made, is_same, is_different, is_stopped, told_same, told_stopped, can_read_off, told_different, told_short}
 use Rattle.comparing.proofs.compare_opened.Goals as goal
 
-pub overflow_sub-result : goal.overflow_sub-result
-overflow_sub-result c =
-    let s = c in
-    let search =
-    searched s.requires.good_store s.requires.x_lt_places s.requires.legal_pairs (λ i. (c.shared_slice_known-1.given i).fits)
-    c.search-end.ensures in
-    same_left search c.in-Same.is
+pub tell_found-requires-clause-origin_bound : goal.tell_found-requires-clause-origin_bound
+tell_found-requires-clause-origin_bound c =
+    let search = search_made c.requires.stand (λ i. (c.type_inv.letters i).fits) c.search-end.ensures.ends in
+    let end = c.in-Err-Different in
+    (can_read_off search (is_different end.is (rw end.is at end.field-0-is))).1
 
-pub tell_word-told-requires : goal.tell_word-told-requires
-tell_word-told-requires c =
-    let s = c in
-    let search =
-    searched s.requires.good_store s.requires.x_lt_places s.requires.legal_pairs (λ i. (c.shared_slice_known-1.given i).fits)
-    c.search-end.ensures in
-    let told = can_read_off search c.in-Different.is in
-    record { ordered_pairs = told.0; from_bound = told.1 }
+pub returns-in-Ok-clause-leaves : goal.returns-in-Ok-clause-leaves
+returns-in-Ok-clause-leaves c =
+    let search = search_made c.requires.stand (λ i. (c.type_inv.letters i).fits) c.search-end.ensures.ends in
+    told_same search (is_same c.in-Ok.is) c.args.word.now
 
-pub overflow_sub-result-in-Written : goal.overflow_sub-result-in-Written
-overflow_sub-result-in-Written c =
-    let s = c in
-    let search =
-    searched s.requires.good_store s.requires.x_lt_places s.requires.legal_pairs (λ i. (c.shared_slice_known-1.given i).fits)
-    c.search-end.ensures in
-    different_left search c.in-Different.is
+pub returns-in-Ok-tell_found-clause-leaves : goal.returns-in-Ok-tell_found-clause-leaves
+returns-in-Ok-tell_found-clause-leaves c =
+    let search = search_made c.requires.stand (λ i. (c.type_inv.letters i).fits) c.search-end.ensures.ends in
+    let end = c.in-Err-Different in
+    told_different search (is_different end.is (rw end.is at end.field-0-is)) c.args.word.now c.tell_found.ensures c.in-Ok-tell_found.is
 
-pub overflow_sub-result-in-Short : goal.overflow_sub-result-in-Short
-overflow_sub-result-in-Short c =
-    let s = c in
-    let search =
-    searched s.requires.good_store s.requires.x_lt_places s.requires.legal_pairs (λ i. (c.shared_slice_known-1.given i).fits)
-    c.search-end.ensures in
-    different_left search c.in-Different.is
+pub returns-in-Err-clause-leaves : goal.returns-in-Err-clause-leaves
+returns-in-Err-clause-leaves c =
+    let search = search_made c.requires.stand (λ i. (c.type_inv.letters i).fits) c.search-end.ensures.ends in
+    let end = c.in-Err-Different in
+    told_short search (is_different end.is (rw end.is at end.field-0-is)) c.args.word.now c.tell_found.ensures c.in-Err.is
 
-pub overflow_sub-result-in-Stopped : goal.overflow_sub-result-in-Stopped
-overflow_sub-result-in-Stopped c =
-    let s = c in
-    let search =
-    searched s.requires.good_store s.requires.x_lt_places s.requires.legal_pairs (λ i. (c.shared_slice_known-1.given i).fits)
-    c.search-end.ensures in
-    stopped_left search c.in-Stopped.is
-
-pub returns-in-Same : goal.returns-in-Same
-returns-in-Same c =
-    let s = c in
-    let search =
-    searched s.requires.good_store s.requires.x_lt_places s.requires.legal_pairs (λ i. (c.shared_slice_known-1.given i).fits)
-    c.search-end.ensures in
-    told_same search c.in-Same.is s.args.word.now
-
-pub returns-in-Written : goal.returns-in-Written
-returns-in-Written c =
-    let s = c in
-    let search =
-    searched s.requires.good_store s.requires.x_lt_places s.requires.legal_pairs (λ i. (c.shared_slice_known-1.given i).fits)
-    c.search-end.ensures in
-    told_different search c.in-Different.is s.args.word.now c.tell_word-told.ensures c.in-Written.is
-
-pub returns-in-Short : goal.returns-in-Short
-returns-in-Short c =
-    let s = c in
-    let search =
-    searched s.requires.good_store s.requires.x_lt_places s.requires.legal_pairs (λ i. (c.shared_slice_known-1.given i).fits)
-    c.search-end.ensures in
-    told_short search c.in-Different.is s.args.word.now c.tell_word-told.ensures c.in-Short.is
-
-pub returns-in-Stopped : goal.returns-in-Stopped
-returns-in-Stopped c =
-    let s = c in
-    let search =
-    searched s.requires.good_store s.requires.x_lt_places s.requires.legal_pairs (λ i. (c.shared_slice_known-1.given i).fits)
-    c.search-end.ensures in
-    told_stopped search c.in-Stopped.is s.args.word.now
+pub returns-in-Err-Refused-clause-leaves : goal.returns-in-Err-Refused-clause-leaves
+returns-in-Err-Refused-clause-leaves c =
+    let search = search_made c.requires.stand (λ i. (c.type_inv.letters i).fits) c.search-end.ensures.ends in
+    let end = c.in-Err-Refused in
+    rw c.number.ensures (told_stopped search (is_stopped end.is (rw end.is at end.field-0-is)) c.args.word.now)

@@ -2,7 +2,9 @@
 use Prim.Native.Nat.{ℕ}
 use mathlib.Core.Bool.{Bool, true, false}
 use mathlib.Core.List.{List}
-use mathlib.Core.Path.{◌≡◌, sym, ◌∙◌}
+use mathlib.Core.Path.{◌≡◌, sym, ◌∙◌, ap}
+use Rattle.std.proofs.lemmas.Result.{err_from_is_err_and}
+use Rattle.refusals.specs.Told.{standing_told}
 use Rattle.refusals.specs.Order.{Standing}
 use Rattle.refusals.specs.Order.{Good, Refused}
 use Rattle.cards.specs.Examine.{pattern_card}
@@ -44,28 +46,32 @@ module _ (left right : List ℕ) (work pairs : ℕ) {first : Standing} (is : fir
         unfolding compare_standing
         told-good u = rw (left_good, right_good, sym w ∙ t, sym v ∙ u)
 
-pub returns-in-Refused : goal.returns-in-Refused
-returns-in-Refused c =
+pub returns-in_err-examine_pattern : goal.returns-in_err-examine_pattern
+returns-in_err-examine_pattern c =
     let a = c.args in
-    told-left a.left.now a.right.now a.work a.pairs c.examine_pattern-first.ensures c.in-Refused.is
+    let told = err_from_is_err_and c.from_residual.result c.from_residual.ensures.1 in
+    rw (told.1, told.2)
+    (told-left a.left.now a.right.now a.work a.pairs c.examine_pattern.ensures (ap standing_told c.in_err-examine_pattern.was))
 
-pub returns-in-Refused-second : goal.returns-in-Refused-second
-returns-in-Refused-second c =
+pub returns-in_err-examine_pattern-2 : goal.returns-in_err-examine_pattern-2
+returns-in_err-examine_pattern-2 c =
     let a = c.args in
-    told-right a.left.now a.right.now a.work a.pairs
-    c.examine_pattern-first.ensures
-    c.in_default.is
-    c.examine_pattern-second.ensures
-    c.in-Refused-second.is
+    let told = err_from_is_err_and c.from_residual-in_err-examine_pattern-2.result c.from_residual-in_err-examine_pattern-2.ensures.1 in
+    rw (told.1, told.2)
+    (told-right a.left.now a.right.now a.work a.pairs
+    c.examine_pattern.ensures
+    (ap standing_told c.in_ok-examine_pattern.was)
+    c.examine_pattern-2.ensures
+    (ap standing_told c.in_err-examine_pattern-2.was))
 
 pub returns-then-wrong_room : goal.returns-then-wrong_room
 returns-then-wrong_room c =
     let a = c.args in
     told-5 a.left.now a.right.now a.work a.pairs
-    c.examine_pattern-first.ensures
-    c.in_default.is
-    c.examine_pattern-second.ensures
-    c.in_default-second.is
+    c.examine_pattern.ensures
+    (ap standing_told c.in_ok-examine_pattern.was)
+    c.examine_pattern-2.ensures
+    (ap standing_told c.in_ok-examine_pattern-2.was)
     c.wrong_room.ensures
     c.if-wrong_room.true
 
@@ -73,10 +79,10 @@ pub returns-then-wrong_pair_room : goal.returns-then-wrong_pair_room
 returns-then-wrong_pair_room c =
     let a = c.args in
     told-6 a.left.now a.right.now a.work a.pairs
-    c.examine_pattern-first.ensures
-    c.in_default.is
-    c.examine_pattern-second.ensures
-    c.in_default-second.is
+    c.examine_pattern.ensures
+    (ap standing_told c.in_ok-examine_pattern.was)
+    c.examine_pattern-2.ensures
+    (ap standing_told c.in_ok-examine_pattern-2.was)
     c.wrong_room.ensures
     c.if-wrong_room.false
     c.wrong_pair_room.ensures
@@ -86,10 +92,10 @@ pub returns : goal.returns
 returns c =
     let a = c.args in
     told-good a.left.now a.right.now a.work a.pairs
-    c.examine_pattern-first.ensures
-    c.in_default.is
-    c.examine_pattern-second.ensures
-    c.in_default-second.is
+    c.examine_pattern.ensures
+    (ap standing_told c.in_ok-examine_pattern.was)
+    c.examine_pattern-2.ensures
+    (ap standing_told c.in_ok-examine_pattern-2.was)
     c.wrong_room.ensures
     c.if-wrong_room.false
     c.wrong_pair_room.ensures
