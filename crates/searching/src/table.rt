@@ -1,4 +1,5 @@
-// The table of pairs of a search: the pair room that it was lent, and the pairs placed at the start of it.
+// The table of pairs of a search: the pair room that it was lent, and the pairs placed at the start of it. The number stands beside the room, since
+// the room is the caller's and nothing is allocated.
 ghost use Rattle.std.specs.Prelude.{◌≡◌, ◌<◌, ◌≤◌, length};
 ghost use Rattle.refusals.specs.Limits.{most_pair_room};
 ghost use Rattle.pairs.specs.Pair.{pair_record, stands_in};

@@ -21,13 +21,6 @@ returns-in_err-x-clause-goes c =
     rw (told.1, told.2)
     (rooms_go _ (then_stopped call w.budget c.pair-p.ensures (both_come_room c.derive_both.ensures.comes) (ap (λ r. both_of r w'.places w'.budget) c.in_err-x.was)))
 
-pub look-requires-clause-stand : goal.look-requires-clause-stand
-look-requires-clause-stand c =
-    let w = c.args.work.now in
-    let w' = c.derive_both.new.work in
-    let call = one_letter w c.args.table.now c.requires.tabled c.requires.placed c.ranges.letter.fits in
-    (can_look call w.budget c.pair-p.ensures (both_come_room c.derive_both.ensures.comes) (ap (λ r. both_of r w'.places w'.budget) c.in_ok-x.was)).inside
-
 pub look-requires-clause-tabled : goal.look-requires-clause-tabled
 look-requires-clause-tabled c =
     let w = c.args.work.now in
