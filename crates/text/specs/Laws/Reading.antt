@@ -249,7 +249,7 @@ number_no_digit {text} {from} most (reads_no_digit n) = reads_no_number (record 
     no_run t none l h = omega arith
     no_run t (one {c} {w} d k) l h = n.stops c (w ++ t) h d
 
-pub number_at_end : (text : List ℕ) (from most : ℕ) → from ≡ length text → ReadsNumber text from most None from
+pub number_at_end : (text : List ℕ) (from most : ℕ) → from ≡ length text → {to : ℕ} → ReadsNumber text from most None to
 number_at_end text from most e = number_no_digit most (digit_ended text from (omega arith))
 
 -- A number with these digits, not too large.
@@ -310,8 +310,8 @@ module _ {text : List ℕ} {from most value at : ℕ} (h : NumberSoFar text from
   number_ended l = number_done (digit_ended text at l)
 
   -- One digit more, or too many.
-  pub number_more : {c v to : ℕ} → ReadsDigit text at (Some c) to → Grows value c most (Some v) → NumberSoFar text from most v to
-  number_more {c} (reads_digit l d e) g =
+  one_more : {c v : ℕ} → at < length text → drop at text ≡ c ∷ drop (at + 1) text → Grows value c most (Some v) → NumberSoFar text from most v (at + 1)
+  one_more {c} l e g =
       let k = grown g in
       record {
         inside = omega arith;
@@ -320,14 +320,16 @@ module _ {text : List ℕ} {from most value at : ℕ} (h : NumberSoFar text from
             ∙ ap (λ (s : List ℕ). s ++ drop (at + 1) text) (sym k.digits);
       }
 
+  pub number_more : {c v to : ℕ} → ReadsDigit text at (Some c) to → Grows value c most (Some v) → NumberSoFar text from most v to
+  number_more (reads_digit l d e) g = one_more l e g
+
   pub number_too_far : {c to last : ℕ} → ReadsDigit text at (Some c) to → Grows value c most None → ReadsNumber text from most None last
   number_too_far {c} (reads_digit l d e) g =
       reads_no_number
       (subst (λ (s : List ℕ). NoNumber most s) (sym (h.read ∙ ap (λ (s : List ℕ). decimal value ++ s) e)) (not_grown g (drop (at + 1) text) d))
 
-  pub number_grown : {v : ℕ} → at < length text → IsDigit (get_or text at 0) → Grows value (get_or text at 0) most (Some v)
-      → NumberSoFar text from most v (at + 1)
-  number_grown l d g = number_more (digit_one text at l d) g
+  pub number_grown : {v : ℕ} → at < length text → Grows value (get_or text at 0) most (Some v) → NumberSoFar text from most v (at + 1)
+  number_grown l g = one_more l (next text at l) g
 
   pub number_not : {to : ℕ} → at < length text → IsDigit (get_or text at 0) → Grows value (get_or text at 0) most None → ReadsNumber text from most None to
   number_not l d g = number_too_far (digit_one text at l d) g
