@@ -249,6 +249,6 @@ pub is_different : {answer : Result (Unit {0}) CodeEnd} {end : CodeEnd} {from le
     → end ≡ differs from letter left_has → end_of answer taken placed left ≡ Different from letter left_has taken placed left
 is_different {taken = n} {placed = m} {left = b} e f = ap (λ (a : Result (Unit {0}) CodeEnd). end_of a n m b) (e ∙ ap Err f)
 
-pub is_stopped : {answer : Result (Unit {0}) CodeEnd} {end : CodeEnd} {refusal : Refusal} {taken placed left : ℕ} → answer ≡ Err end
-    → end ≡ refused refusal → end_of answer taken placed left ≡ Stopped (number refusal) taken placed left
-is_stopped {taken = n} {placed = m} {left = b} e f = ap (λ (a : Result (Unit {0}) CodeEnd). end_of a n m b) (e ∙ ap Err f)
+pub is_stopped : {answer : Result (Unit {0}) CodeEnd} {end : CodeEnd} {refusal : Refusal} {n taken placed left : ℕ} → answer ≡ Err end
+    → end ≡ refused refusal → n ≡ number refusal → end_of answer taken placed left ≡ Stopped n taken placed left
+is_stopped {n = n} {taken = p} {placed = m} {left = b} e f g = rw g (ap (λ (a : Result (Unit {0}) CodeEnd). end_of a p m b) (e ∙ ap Err f))
