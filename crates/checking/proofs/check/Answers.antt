@@ -1,65 +1,52 @@
--- `check` comes to its outcome: refused at once it tells that; else it opens the pattern cards and checks the list as the definition does, by the
--- letters that the two pattern cards mention, and what is so told is true.
-use Prim.Native.Nat.{ℕ, ◌-◌}
-use native.Mathlib.Omega.{arith}
+-- `check` comes to its outcome: refused at once it tells that; else it checks the cards as the definition does, and what is so told is true.
 use mathlib.Core.List.{List}
-use mathlib.Core.Path.{◌≡◌, ap}
-use lib.ListN.{length, take, length-take}
+use mathlib.Core.Path.{◌≡◌, sym, ◌∙◌}
+use lib.ListN.{length}
 use Rattle.std.proofs.Common.{◌<◌, get_or}
-use Rattle.refusals.specs.Order.{Standing}
+use Prim.Native.Nat.{ℕ}
+use Rattle.std.specs.declared.result.Result.{Result}
+use Rattle.refusals.specs.declared.refusal.Refusal.{Refusal}
+use Rattle.refusals.specs.Told.{standing_told}
 use Rattle.checking.specs.Outcome.{check_standing}
 use Rattle.language.proofs.Laws.Words.{bytes_all}
-use Rattle.checking.proofs.Laws.Call.{Lent, refused_at_once, can_open, full_in_opening, opened_ready, checked_opened}
+use Rattle.checking.proofs.Laws.Call.{Lent, refused_at_once, not_refused, good_proof, can_open, still_legal, call_told}
 use Rattle.checking.proofs.check.Goals as goal
 
--- The letters lent are the first so many of those written.
-from_first : (count : ℕ) (letters : List ℕ) {those : List ℕ} → take count letters ≡ those → take (count - 0) letters ≡ those
-from_first count letters e = let all : count - 0 ≡ count = omega arith in rw all e
-
 -- What is known once the refusals were asked.
-lent : {left right proof list room : List ℕ} {budget : ℕ} {found : Standing} → ((i : ℕ) → get_or left i 0 < 256) → ((i : ℕ) → get_or right i 0 < 256)
-    → ((i : ℕ) → get_or proof i 0 < 256) → ((i : ℕ) → get_or list i 0 < 256) → ((i : ℕ) → get_or room i 0 < 256)
-    → found ≡ check_standing left right proof list (length room) → Lent left right proof list room budget found
-lent {left} {right} {proof} {list} {room} a b d e f g =
-    record {
-      lefts = bytes_all left a;
-      rights = bytes_all right b;
-      proofs = bytes_all proof d;
-      lists = bytes_all list e;
-      bytes = bytes_all room f;
-      standing = g;
-    }
+lent : {left right proof list room : List ℕ} {budget : ℕ} {found : Result (Unit {0}) Refusal} → ((i : ℕ) → get_or left i 0 < 256)
+    → ((i : ℕ) → get_or right i 0 < 256) → ((i : ℕ) → get_or proof i 0 < 256) → ((i : ℕ) → get_or list i 0 < 256)
+    → standing_told found ≡ check_standing left right proof list (length room) → Lent left right proof list room budget found
+lent {left} {right} {proof} {list} a b d e g =
+    record { lefts = bytes_all left a; rights = bytes_all right b; proofs = bytes_all proof d; lists = bytes_all list e; standing = g }
 
-pub returns-in-Refused : goal.returns-in-Refused
-returns-in-Refused c = refused_at_once (lent {budget = c.args.budget} (λ i. (c.shared_slice_known-1.given i).fits) (λ i. (c.shared_slice_known-2-1.given i).fits) (λ i. (c.shared_slice_known-3-1.given i).fits) (λ i. (c.shared_slice_known-4-1.given i).fits) (λ i. (c.slice_known-1.given i).fits) c.standing-found.ensures) c.in-Refused.is
+pub returns-in-Err : goal.returns-in-Err
+returns-in-Err c =
+    let k = lent {budget = c.args.budget} (λ i. (c.type_inv.left i).fits) (λ i. (c.type_inv.right i).fits) (λ i. (c.type_inv.proof i).fits) (λ i. (c.type_inv.list i).fits) c.standing.ensures in
+    rw c.number.ensures (refused_at_once k c.in-Err.is)
 
-pub open_both-opened-requires : goal.open_both-opened-requires
-open_both-opened-requires c =
-    let e = c in
-    can_open (lent {budget = c.args.budget} (λ i. (c.shared_slice_known-1.given i).fits) (λ i. (c.shared_slice_known-2-1.given i).fits) (λ i. (c.shared_slice_known-3-1.given i).fits) (λ i. (c.shared_slice_known-4-1.given i).fits) (λ i. (c.slice_known-1.given i).fits) c.standing-found.ensures) e.in_default.is
+pub begin-work-requires : goal.begin-work-requires
+begin-work-requires c =
+    let k = lent {budget = c.args.budget} (λ i. (c.type_inv.left i).fits) (λ i. (c.type_inv.right i).fits) (λ i. (c.type_inv.proof i).fits) (λ i. (c.type_inv.list i).fits) c.standing.ensures in
+    (not_refused k c.in_default.is).room_legal
 
-pub slice_bounds-check_opened-end : goal.slice_bounds-check_opened-end
-slice_bounds-check_opened-end c =
-    let t = c in
-    omega (arith, t.tried-count.ensures.value, ap length t.tried-count.ensures.letters_after, length-take t.tried-count.result t.tried-count.new.letters)
+pub check_cards-checked-requires-clause-can_open : goal.check_cards-checked-requires-clause-can_open
+check_cards-checked-requires-clause-can_open c =
+    let k = lent {budget = c.args.budget} (λ i. (c.type_inv.left i).fits) (λ i. (c.type_inv.right i).fits) (λ i. (c.type_inv.proof i).fits) (λ i. (c.type_inv.list i).fits) c.standing.ensures in
+    can_open k c.in_default.is c.begin-work.ensures.begun c.begin-work.ensures.room_after
 
-pub check_opened-requires : goal.check_opened-requires
-check_opened-requires c =
-    let o = c in
-    let e = o in
-    let told = opened_ready (lent {budget = c.args.budget} (λ i. (c.shared_slice_known-1.given i).fits) (λ i. (c.shared_slice_known-2-1.given i).fits) (λ i. (c.shared_slice_known-3-1.given i).fits) (λ i. (c.shared_slice_known-4-1.given i).fits) (λ i. (c.slice_known-1.given i).fits) c.standing-found.ensures) e.in_default.is o.open_both-opened.ensures c.in-At.is in
-    record { good_store = told.0; good_proof = told.1.0; x_lt_places = told.1.1 }
+pub check_cards-checked-requires-clause-room_legal : goal.check_cards-checked-requires-clause-room_legal
+check_cards-checked-requires-clause-room_legal c =
+    let k = lent {budget = c.args.budget} (λ i. (c.type_inv.left i).fits) (λ i. (c.type_inv.right i).fits) (λ i. (c.type_inv.proof i).fits) (λ i. (c.type_inv.list i).fits) c.standing.ensures in
+    still_legal k c.in_default.is c.begin-work.ensures.begun c.begin-work.ensures.room_after
 
-pub returns-in-At : goal.returns-in-At
-returns-in-At c =
-    let o = c in
-    let t = o in
-    let e = t in
-    checked_opened (lent {budget = c.args.budget} (λ i. (c.shared_slice_known-1.given i).fits) (λ i. (c.shared_slice_known-2-1.given i).fits) (λ i. (c.shared_slice_known-3-1.given i).fits) (λ i. (c.shared_slice_known-4-1.given i).fits) (λ i. (c.slice_known-1.given i).fits) c.standing-found.ensures) e.in_default.is o.open_both-opened.ensures c.in-At.is
-    (from_first t.tried-count.result t.tried-count.new.letters t.tried-count.ensures.letters_after) c.check_opened.ensures
+pub check_cards-checked-requires-clause-good_proof : goal.check_cards-checked-requires-clause-good_proof
+check_cards-checked-requires-clause-good_proof c =
+    let k = lent {budget = c.args.budget} (λ i. (c.type_inv.left i).fits) (λ i. (c.type_inv.right i).fits) (λ i. (c.type_inv.proof i).fits) (λ i. (c.type_inv.list i).fits) c.standing.ensures in
+    good_proof k c.in_default.is
 
-pub returns-in-Full : goal.returns-in-Full
-returns-in-Full c =
-    let o = c in
-    let e = o in
-    full_in_opening (lent {budget = c.args.budget} (λ i. (c.shared_slice_known-1.given i).fits) (λ i. (c.shared_slice_known-2-1.given i).fits) (λ i. (c.shared_slice_known-3-1.given i).fits) (λ i. (c.shared_slice_known-4-1.given i).fits) (λ i. (c.slice_known-1.given i).fits) c.standing-found.ensures) e.in_default.is o.open_both-opened.ensures c.in-Full.is
+-- The room is what is left of the work, since it is the same room.
+pub returns : goal.returns
+returns c =
+    let k = lent {budget = c.args.budget} (λ i. (c.type_inv.left i).fits) (λ i. (c.type_inv.right i).fits) (λ i. (c.type_inv.proof i).fits) (λ i. (c.type_inv.list i).fits) c.standing.ensures in
+    let told = call_told k c.in_default.is c.begin-work.ensures.begun c.begin-work.ensures.room_after c.begin-work.ensures.budget c.check_cards-checked.ensures.tells in
+    rw (c.answer.ensures, c.room-1.given.1.1 (sym (c.check_cards-checked.ensures.same_room ∙ c.begin-work.ensures.same_room))) told
