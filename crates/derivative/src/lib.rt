@@ -2,7 +2,7 @@
 // The definitions that the contracts cite stand in specs/; specs/Lib.antt lists them. Nothing of this is offered to others.
 #![tactic(auto)]
 
-ghost use Rattle.std.specs.Prelude.{◌≡◌, cond, ℕ, ◌<◌};
+ghost use Rattle.std.specs.Prelude.{◌≡◌, cond, ℕ, ◌<◌, ◌≤◌, IfOk};
 ghost use Rattle.store.specs.Room.{store_in, places_of};
 ghost use Rattle.store.specs.Told.{Makes};
 ghost use Rattle.store.specs.Good.{GoodStore};
@@ -39,13 +39,15 @@ pub fn derive(work: &mut Work<'_>, place: usize, letter: u8) -> Result<usize, Re
     requires { place < work.old.places }
     ensures same_room { work.new.room.ghost_name ≡ work.old.room.ghost_name }
     ensures comes { (depth : ℕ) → place < depth → Comes work.old (derive_to depth (space_of work.old) letter place (store_of work.old) work.old.budget) result work.new }
+    ensures inside { IfOk result (λ next. next < work.new.places) }
+    ensures grows { work.old.places ≤ work.new.places }
 {
     let fee = price(place);
     if work.budget < fee {
         return Err(Refusal::NoBudgetLeft);
     }
     work.budget -= fee;
-    match visit(work.room, work.places, place, letter) {
+    match visit(work, place, letter) {
         Visited::Leaf(next) => Ok(next),
         Visited::Parts(left, right, product, both) => {
             derive_parts(work, left, right, product, both, letter)
@@ -62,12 +64,11 @@ fn price(place: usize) -> u32
 
 // Reads the record at a place, and tells what it asks for: a choice both parts and no product, a sequence the product, and the right part only if
 // the left one's mark is 1, a repeat the product with itself.
-fn visit(room: &[u8], places: usize, place: usize, letter: u8) -> Visited
-    requires good_store { GoodStore room.now places }
-    requires stands { place < places }
-    ensures { result ≡ asked (store_in room.now places) letter place }
+fn visit(work: &Work<'_>, place: usize, letter: u8) -> Visited
+    requires { place < work.now.places }
+    ensures { result ≡ asked (store_of work.now) letter place }
 {
-    let r = read(room, place);
+    let r = read(work.room, place);
     match Kind::from(r.kind) {
         Kind::Nothing => Visited::Leaf(NOTHING_PLACE),
         Kind::EmptyWord => Visited::Leaf(NOTHING_PLACE),
@@ -77,14 +78,14 @@ fn visit(room: &[u8], places: usize, place: usize, letter: u8) -> Visited
             r.left as usize,
             r.right as usize,
             true,
-            marked_at(room, places, r.left as usize),
+            marked_at(work.room, work.places, r.left as usize),
         ),
         Kind::Repeat => Visited::Parts(r.left as usize, place, true, false),
         Kind::Unknown => Visited::Leaf(NOTHING_PLACE),
     }
 }
 
-// Derives the left part, and goes on.
+// Derives the left part, and goes on. What was asked for is passed on one by one, so that a level of the calls takes little of the stack.
 #[cycle(deriving)]
 fn derive_parts(
     work: &mut Work<'_>,

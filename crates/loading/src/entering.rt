@@ -1,5 +1,5 @@
 // Entering a pattern card into a store: its records loaded, and the place of its root.
-ghost use Rattle.std.specs.Prelude.{◌≡◌};
+ghost use Rattle.std.specs.Prelude.{◌≡◌, ◌<◌, ◌≤◌, IfOk};
 ghost use Rattle.refusals.specs.Order.{Good};
 ghost use Rattle.records.specs.Record.{records};
 ghost use Rattle.cards.specs.Examine.{pattern_card};
@@ -18,6 +18,8 @@ pub fn enter(work: &mut Work<'_>, card: &[u8]) -> Result<usize, Refusal>
     requires { pattern_card card.now ≡ Good }
     ensures same_room { work.new.room.ghost_name ≡ work.old.room.ghost_name }
     ensures enters { Enters work.old (load (space_of work.old) (store_of work.old) (records card.now)) result work.new }
+    ensures inside { IfOk result (λ place. place < work.new.places) }
+    ensures grows { work.old.places ≤ work.new.places }
 {
     let mut map = [0u16; MOST_PATTERN_RECORDS];
     load(work, card, &mut map)?;

@@ -1,27 +1,25 @@
 // The letters tried.
-ghost use Rattle.std.specs.Prelude.{◌≡◌, ◌≤◌, length, take};
+ghost use Rattle.std.specs.Prelude.{◌≡◌, ◌≤◌, length};
 ghost use Rattle.pairs.specs.Tried.{mentioned, tried};
 ghost use Rattle.refusals.specs.Limits.{most_letters};
 
 use cards::letters::mentions;
 use refusals::limits::MOST_LETTERS;
 
-// Writes the letters of either card into `letters`, ascending, and answers how many there are.
-pub fn tried(left: &[u8], right: &[u8], letters: &mut [u8]) -> usize
+// The letters of either card, ascending; they are written into `letters`.
+pub fn tried<'a>(left: &[u8], right: &[u8], letters: &'a mut [u8]) -> &'a [u8]
     requires { most_letters ≤ length letters.old }
-    ensures value { result ≡ length (tried left.now right.now) }
-    ensures letters_after { take result letters.new ≡ tried left.now right.now }
+    ensures { result.now ≡ tried left.now right.now }
 {
     let mut count = 0;
-    let mut at = 0;
-    while at < MOST_LETTERS {
-        if mentioned(left, right, at as u8) {
-            letters[count] = at as u8;
+    for at in 0..MOST_LETTERS {
+        let letter = at as u8;
+        if mentioned(left, right, letter) {
+            letters[count] = letter;
             count += 1;
         }
-        at += 1;
     }
-    count
+    &letters[..count]
 }
 
 // Whether a letter record of either card has the letter.

@@ -1,5 +1,5 @@
 // Opening a call on two pattern cards: into a fresh store the left card is loaded, then the right.
-ghost use Rattle.std.specs.Prelude.{◌≡◌};
+ghost use Rattle.std.specs.Prelude.{◌≡◌, ◌<◌, IfOk};
 ghost use Rattle.records.specs.Record.{records};
 ghost use Rattle.store.specs.Work.{space_of};
 ghost use Rattle.pairs.specs.Opening.{open_both};
@@ -14,6 +14,7 @@ pub fn open_both(work: &mut Work<'_>, left: &[u8], right: &[u8]) -> Result<(usiz
     requires { CanOpen left.now right.now work.old }
     ensures same_room { work.new.room.ghost_name ≡ work.old.room.ghost_name }
     ensures opens { Opens work.old (open_both (space_of work.old) (records left.now) (records right.now)) result work.new }
+    ensures inside { IfOk result (λ p. (p.0 < work.new.places) × (p.1 < work.new.places)) }
 {
     let x = enter(work, left)?;
     let y = enter(work, right)?;

@@ -42,14 +42,7 @@ pub fn places_at(run: &[u8], at: usize) -> u32
     ensures { result ≡ places_of_pair (pair_record run.now at) }
 {
     let start = PAIR * at;
-    four(run[start], run[start + 1], run[start + 2], run[start + 3])
-}
-
-// Four bytes as one number, low byte first.
-fn four(a: u8, b: u8, c: u8, d: u8) -> u32
-    ensures { result ≡ a + 256 * b + 65536 * c + 16777216 * d }
-{
-    (a as u32) + 256 * (b as u32) + 65536 * (c as u32) + 16777216 * (d as u32)
+    u32::from_le_bytes([run[start], run[start + 1], run[start + 2], run[start + 3]])
 }
 
 // Lays a pair down at the start of a part of a room.

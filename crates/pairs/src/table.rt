@@ -12,12 +12,10 @@ pub fn stands_in(room: &[u8], pairs: usize, left: u16, right: u16) -> bool
     ensures { result ≡ stands_in (table_in room.now pairs) left right }
 {
     let wanted = both(left, right);
-    let mut at = 0;
-    while at < pairs {
+    for at in 0..pairs {
         if places_at(room, at) == wanted {
             return true;
         }
-        at += 1;
     }
     false
 }
@@ -29,14 +27,5 @@ pub fn place(room: &mut [u8], pairs: usize, p: Pair)
     requires pairs_in_bounds { 8 * pairs + 8 ≤ length room.old }
     ensures { room.new ≡ laid_pairs (table_in room.old pairs ++ p ∷ []) room.old }
 {
-    let start = start_of(pairs);
-    lay(&mut room[start..], p);
-}
-
-// Where the first free pair starts.
-fn start_of(pairs: usize) -> usize
-    requires { pairs ≤ most_pairs }
-    ensures { result ≡ 8 * pairs }
-{
-    PAIR * pairs
+    lay(&mut room[PAIR * pairs..], p);
 }

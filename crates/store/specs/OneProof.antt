@@ -1,11 +1,11 @@
 -- A good store is good in one way: what says so has one proof at most, and so can be a fact of what a call works with.
-use Rattle.std.specs.Prelude.{ℕ, ◌<◌, Bool, true, false, List, [], ◌∷◌, ◌≡◌, length}
+use Rattle.std.specs.Prelude.{ℕ, Bool, true, false, List, [], ◌∷◌, ◌≡◌}
 use Rattle.std.specs.Coded.{le_prop, Unit-prop}
 use Rattle.std.proofs.Props.{props}
-use Rattle.std.proofs.Common.{refl, ap, ap₂}
+use Rattle.std.proofs.Common.{refl, ap₂}
 use native.Mathlib.Nat.{ℕ_set}
 use mathlib.Core.Bool.{Bool-set}
-use Rattle.language.specs.Word.{IsByte, Over, none as no_letter, one as one_letter, Bytes}
+use Rattle.language.specs.Word.{none as no_letter, one as one_letter, Bytes}
 use Rattle.records.specs.declared.record.Record.{Record}
 use Rattle.records.specs.Record.{child}
 use Rattle.cards.specs.Standing.{LetterField, ChildField}

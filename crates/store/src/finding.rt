@@ -1,4 +1,6 @@
 // Finding an identical record.
+// These stay on the room and its places, and not on `Work`: the store need not be good after any record is used or written, so what is
+// promised of any record could not be promised of `Work`.
 ghost use Rattle.std.specs.Prelude.{◌≡◌, ℕ, ◌≤◌};
 ghost use Rattle.cards.specs.Standing.{ChildField, Obeys};
 ghost use Rattle.store.specs.Room.{store_in};
@@ -15,6 +17,7 @@ pub fn find(room: &[u8], places: usize, r: Record) -> Option<usize>
 {
     let wanted = number(r);
     for at in above_children(r)..places {
+        // A record is compared as one number, for speed.
         if number_at(room, at) == wanted {
             return Some(at);
         }

@@ -1,4 +1,6 @@
 // Using or writing a record: its mark is made of its children's marks; it is used where it is found, and else written at the first free place.
+// These stay on the room and its places, and not on `Work`: the store need not be good after any record is used or written, so what is
+// promised of any record could not be promised of `Work`.
 ghost use Rattle.std.specs.Prelude.{◌≡◌, ◌<◌};
 ghost use Rattle.records.specs.Record.{child};
 ghost use Rattle.cards.specs.Mark.{marked};
@@ -60,6 +62,7 @@ pub fn new_record(
 }
 
 // What the mark of the record at a place says.
+#[tactic(auto, using(crate::proofs::Laws::Room::child_in_room))]
 pub fn marked_at(room: &[u8], places: usize, place: usize) -> bool
     requires good_store { GoodStore room.now places }
     requires place_lt_places { place < places }

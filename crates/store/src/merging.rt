@@ -1,4 +1,6 @@
 // Making a set: two of its kind, merged by rising place, each member once, and built from the last member backward.
+// These stay on the room and its places, and not on `Work`: the store need not be good after any record is used or written, so what is
+// promised of any record could not be promised of `Work`.
 ghost use Rattle.std.specs.Prelude.{◌≡◌, cond, ◌<◌, eqb};
 ghost use Rattle.store.specs.Room.{store_in, places_of};
 ghost use Rattle.store.specs.Making.{placed, put_before, set_of_both};
@@ -51,6 +53,7 @@ pub fn set_of_both(
 }
 
 // The set at a place.
+#[tactic(auto, using(crate::proofs::Laws::Room::child_in_room))]
 fn read_side(room: &[u8], places: usize, kind: u8, place: usize) -> Side
     requires good_store { GoodStore room.now places }
     requires place_lt_places { place < places }

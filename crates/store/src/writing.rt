@@ -1,8 +1,9 @@
 // Writing a new record at the first free place.
+// These stay on the room and its places, and not on `Work`: the store need not be good after any record is used or written, so what is
+// promised of any record could not be promised of `Work`.
 ghost use Rattle.std.specs.Prelude.{◌≡◌, [], ◌∷◌, ◌++◌, ◌+◌, ◌*◌, ◌≤◌, length};
 ghost use Rattle.store.specs.Room.{store_in, laid};
 ghost use Rattle.store.specs.Good.{GoodStore};
-ghost use Rattle.refusals.specs.Limits.{most_places};
 
 use records::record::{RECORD, Record, lay};
 
@@ -12,14 +13,5 @@ pub fn write(room: &mut [u8], places: usize, r: Record)
     requires places_in_bounds { 8 * places + 8 ≤ length room.old }
     ensures { room.new ≡ laid (store_in room.old places ++ r ∷ []) room.old }
 {
-    let start = start_of(places);
-    lay(&mut room[start..], r);
-}
-
-// Where the first free place starts.
-fn start_of(places: usize) -> usize
-    requires { places ≤ most_places }
-    ensures { result ≡ 8 * places }
-{
-    RECORD * places
+    lay(&mut room[RECORD * places..], r);
 }

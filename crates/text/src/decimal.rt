@@ -1,46 +1,38 @@
 // Decimal digits, one behind the other: a number grows by a digit, has no leading zero, and is not above the largest that is asked for.
-ghost use Rattle.text.specs.Told.{Begins, Grows};
+ghost use Rattle.text.specs.Told.{Begins, Grows, DigitOf};
 
-// A number, as far as it is read.
-#[derive(Clone, Copy)]
-pub enum Number {
-    Is(u32),
-    Not,
+// The number that a digit stands for, if it does.
+pub fn value_of(digit: u8) -> Option<u32>
+    ensures { DigitOf digit result }
+{
+    match digit {
+        b'0'..=b'9' => Some(u32::from(digit - b'0')),
+        _ => None,
+    }
 }
 
 // The number of one digit.
-pub fn first_digit(digit: u8, most: u32) -> Number
+pub fn first_digit(digit: u8, most: u32) -> Option<u32>
     ensures { Begins digit most result }
 {
-    if digit < b'0' {
-        return Number::Not;
-    }
-    if b'9' < digit {
-        return Number::Not;
-    }
-    let value = (digit - b'0') as u32;
+    let value = value_of(digit)?;
     if most < value {
-        return Number::Not;
+        return None;
     }
-    Number::Is(value)
+    Some(value)
 }
 
 // A number with one digit more: not behind a zero, and not above the largest.
-pub fn with_digit(value: u32, digit: u8, most: u32) -> Number
+pub fn with_digit(value: u32, digit: u8, most: u32) -> Option<u32>
     ensures { Grows value digit most result }
 {
-    if digit < b'0' {
-        return Number::Not;
-    }
-    if b'9' < digit {
-        return Number::Not;
-    }
+    let last = value_of(digit)?;
     if value == 0 {
-        return Number::Not;
+        return None;
     }
-    let more = 10 * (value as u64) + ((digit - b'0') as u64);
-    if (most as u64) < more {
-        return Number::Not;
+    let more = 10 * u64::from(value) + u64::from(last);
+    if u64::from(most) < more {
+        return None;
     }
-    Number::Is(more as u32)
+    Some(more as u32)
 }

@@ -3,39 +3,24 @@ ghost use Rattle.std.specs.Prelude.{◌≡◌, ◌<◌};
 ghost use Rattle.text.specs.Digits.{hex_digit};
 ghost use Rattle.text.specs.Told.{HalfOf, ByteOf};
 
-// What `half_of` answers where there is no half.
-pub const NO_HALF: u8 = 16;
-
-// The byte that two digits stand for, if they do.
-#[derive(Clone, Copy)]
-pub enum Byte {
-    Is(u8),
-    Not,
-}
-
-// The half of a byte that a digit stands for, or `NO_HALF`.
-fn half_of(digit: u8) -> u8
+// The half of a byte that a digit stands for, if it does.
+fn half_of(digit: u8) -> Option<u8>
     ensures { HalfOf digit result }
 {
     match digit {
-        b'0'..=b'9' => digit - b'0',
-        b'a'..=b'f' => digit - b'a' + 10,
-        _ => NO_HALF,
+        b'0'..=b'9' => Some(digit - b'0'),
+        b'a'..=b'f' => Some(digit - b'a' + 10),
+        _ => None,
     }
 }
 
-pub fn byte_of(high: u8, low: u8) -> Byte
+// The byte that two digits stand for, if they do.
+pub fn byte_of(high: u8, low: u8) -> Option<u8>
     ensures { ByteOf high low result }
 {
-    let first = half_of(high);
-    if first == NO_HALF {
-        return Byte::Not;
-    }
-    let second = half_of(low);
-    if second == NO_HALF {
-        return Byte::Not;
-    }
-    Byte::Is(16 * first + second)
+    let first = half_of(high)?;
+    let second = half_of(low)?;
+    Some(16 * first + second)
 }
 
 // The digit of a half of a byte.

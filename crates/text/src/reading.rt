@@ -1,92 +1,105 @@
-// What stands in a text from a place on. A reader takes the text and a place in it, and tells where what it reads ends, or that nothing of its
-// form stands there. No reader goes back, so reading takes time that grows with the text's length alone.
-ghost use Rattle.std.specs.Prelude.{◌≤◌, length};
-ghost use Rattle.text.specs.Told.{Passes, ReadsHex, ReadsNumber};
+// A reader of a text: it takes what stands at its place, and goes on behind that, or tells that nothing of that form stands there. No reader goes
+// back, so reading takes time that grows with the text's length alone.
+ghost use Rattle.std.specs.Prelude.{◌≡◌, ◌+◌, ◌*◌, ◌≤◌, ◌==◌, length};
+ghost use Rattle.text.specs.Told.{Passes, ReadsByte, ReadsHex, ReadsDigit, ReadsNumber};
 
-use crate::decimal::{Number, first_digit, with_digit};
-use crate::hex::{Byte, byte_of};
+use crate::decimal::{first_digit, value_of, with_digit};
+use crate::hex::byte_of;
 
-// A piece ends there; or it does not stand in the text.
+// A text, and the place in it where it is read on.
 #[derive(Clone, Copy)]
-pub enum Passed {
-    To(usize),
-    Not,
+pub struct Reader<'a> {
+    pub text: &'a [u8],
+    pub at: usize,
+    pub ghost inside: { at ≤ length text.now },
 }
 
-// A number, and where its digits end; or none stands there that is not too large.
-#[derive(Clone, Copy)]
-pub enum NumberRead {
-    Read(u32, usize),
-    Bad,
-}
-
-// A piece of text, as it stands.
-pub fn pass(text: &[u8], from: usize, piece: &[u8]) -> Passed
-    requires { from ≤ length text.now }
-    ensures { Passes text.now from piece.now result }
-{
-    if text.len() - from < piece.len() {
-        return Passed::Not;
+impl<'a> Reader<'a> {
+    // A reader at the start of a text.
+    pub fn new(text: &'a [u8]) -> Self
+        ensures text { result.text.now ≡ text.now }
+        ensures place { result.at ≡ 0 }
+    {
+        Reader { text, at: 0 }
     }
-    let mut i = 0;
-    while i < piece.len() {
-        if text[from + i] != piece[i] {
-            return Passed::Not;
-        }
-        i += 1;
-    }
-    Passed::To(from + piece.len())
-}
 
-// Bytes in hex, as many as have their digits there and find room: they go to the start of the room, and it is told how many they are.
-pub fn read_hex(text: &[u8], from: usize, room: &mut [u8]) -> usize
-    requires { from ≤ length text.now }
-    ensures { ReadsHex text.now from result room.new }
-{
-    let mut at = from;
-    let mut count = 0;
-    while count < room.len() {
-        if text.len() - at < 2 {
-            return count;
+    // A reader at a place in a text.
+    pub fn at(text: &'a [u8], place: usize) -> Self
+        requires { place ≤ length text.now }
+        ensures text { result.text.now ≡ text.now }
+        ensures place { result.at ≡ place }
+    {
+        Reader { text, at: place }
+    }
+
+    // Whether the whole text is read.
+    pub fn is_at_end(&self) -> bool
+        ensures { result ≡ (self.now.at == length self.now.text.now) }
+    {
+        self.at == self.text.len()
+    }
+
+    // A piece of text, as it stands. Where it does not stand there, the reader stays.
+    pub fn pass(&mut self, piece: &[u8]) -> Option<()>
+        ensures same_text { self.new.text.now ≡ self.old.text.now }
+        ensures passes { Passes self.old.text.now self.old.at piece.now result self.new.at }
+    {
+        if !self.text[self.at..].starts_with(piece) {
+            return None;
         }
-        let byte = byte_of(text[at], text[at + 1]);
-        let Byte::Is(b) = byte else {
-            return count;
+        self.at += piece.len();
+        Some(())
+    }
+
+    // One byte in hex. Where none stands there, the reader stays.
+    pub fn byte(&mut self) -> Option<u8>
+        ensures same_text { self.new.text.now ≡ self.old.text.now }
+        ensures reads { ReadsByte self.old.text.now self.old.at result self.new.at }
+    {
+        let [high, low, ..] = &self.text[self.at..] else {
+            return None;
         };
-        room[count] = b;
-        count += 1;
-        at += 2;
+        let byte = byte_of(*high, *low)?;
+        self.at += 2;
+        Some(byte)
     }
-    count
-}
 
-// A number in decimal, up to the first byte that is no digit.
-pub fn read_number(text: &[u8], from: usize, most: u32) -> NumberRead
-    requires { from ≤ length text.now }
-    ensures { ReadsNumber text.now from most result }
-{
-    if from == text.len() {
-        return NumberRead::Bad;
-    }
-    let first = first_digit(text[from], most);
-    let Number::Is(begun) = first else {
-        return NumberRead::Bad;
-    };
-    let mut value = begun;
-    let mut at = from + 1;
-    while at < text.len() {
-        if text[at] < b'0' {
-            return NumberRead::Read(value, at);
+    // Bytes in hex, as many as have their digits there and find room: they go to the start of the room, and it is told how many they are.
+    pub fn hex(&mut self, room: &mut [u8]) -> usize
+        ensures same_text { self.new.text.now ≡ self.old.text.now }
+        ensures reads { ReadsHex self.old.text.now self.old.at result room.new }
+        ensures goes_on { self.new.at ≡ self.old.at + 2 * result }
+    {
+        for count in 0..room.len() {
+            let Some(byte) = self.byte() else {
+                return count;
+            };
+            room[count] = byte;
         }
-        if b'9' < text[at] {
-            return NumberRead::Read(value, at);
-        }
-        let grown = with_digit(value, text[at], most);
-        let Number::Is(more) = grown else {
-            return NumberRead::Bad;
-        };
-        value = more;
-        at += 1;
+        room.len()
     }
-    NumberRead::Read(value, at)
+
+    // One decimal digit. Where none stands there, the reader stays.
+    pub fn digit(&mut self) -> Option<u8>
+        ensures same_text { self.new.text.now ≡ self.old.text.now }
+        ensures reads { ReadsDigit self.old.text.now self.old.at result self.new.at }
+    {
+        let digit = *self.text.get(self.at)?;
+        value_of(digit)?;
+        self.at += 1;
+        Some(digit)
+    }
+
+    // A number in decimal, up to the first byte that is no digit. Where there is none that is not too large, the reader stands behind some of its
+    // digits: a caller that tries something else keeps a copy.
+    pub fn number(&mut self, most: u32) -> Option<u32>
+        ensures same_text { self.new.text.now ≡ self.old.text.now }
+        ensures reads { ReadsNumber self.old.text.now self.old.at most result self.new.at }
+    {
+        let mut value = first_digit(self.digit()?, most)?;
+        while let Some(digit) = self.digit() {
+            value = with_digit(value, digit, most)?;
+        }
+        Some(value)
+    }
 }

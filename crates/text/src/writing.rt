@@ -1,81 +1,100 @@
-// Laying text down, from a place in the room on. A writer answers where what it laid down ends.
-ghost use Rattle.std.specs.Prelude.{◌+◌, ◌*◌, ◌<◌, ◌≤◌, length};
+// A writer of a text: it lays down one piece behind the other, from the start of its room on.
+ghost use Rattle.std.specs.Prelude.{◌≡◌, ◌+◌, ◌*◌, ◌<◌, ◌≤◌, length};
 ghost use Rattle.text.specs.Ascii.{line};
 ghost use Rattle.text.specs.Digits.{hex, decimal};
 ghost use Rattle.text.specs.Told.{Puts, most_number};
 
 use crate::hex::digit_of;
 
-// A piece of text, as it stands.
-pub fn put(out: &mut [u8], at: usize, piece: &[u8]) -> usize
-    requires { at + length piece.now ≤ length out.old }
-    ensures { Puts out.old at piece.now result out.new }
-{
-    let mut i = 0;
-    while i < piece.len() {
-        out[at + i] = piece[i];
-        i += 1;
+// A room, and the place in it up to which text stands.
+#[derive(Drop)]
+pub struct Writer<'a> {
+    pub out: &'a mut [u8],
+    pub at: usize,
+    pub ghost inside: { at ≤ length out.now },
+}
+
+impl<'a> Writer<'a> {
+    // A writer at the start of a room.
+    pub fn new(out: &'a mut [u8]) -> Self
+        ensures same_room { result.out.ghost_name ≡ out.entry.ghost_name }
+        ensures contents { result.out.now ≡ out.old }
+        ensures place { result.at ≡ 0 }
+    {
+        Writer { out, at: 0 }
     }
-    at + piece.len()
-}
 
-// Bytes in hex.
-pub fn put_hex(out: &mut [u8], at: usize, bytes: &[u8]) -> usize
-    requires { at + 2 * length bytes.now ≤ length out.old }
-    ensures { Puts out.old at (hex bytes.now) result out.new }
-{
-    let mut to = at;
-    let mut i = 0;
-    while i < bytes.len() {
-        out[to] = digit_of(bytes[i] / 16);
-        out[to + 1] = digit_of(bytes[i] % 16);
-        to += 2;
-        i += 1;
+    // A piece of text, as it stands.
+    pub fn put(&mut self, piece: &[u8])
+        requires { self.old.at + length piece.now ≤ length self.old.out.now }
+        ensures same_room { self.new.out.ghost_name ≡ self.old.out.ghost_name }
+        ensures as_long { length self.new.out.now ≡ length self.old.out.now }
+        ensures puts { Puts self.old.out.now self.old.at piece.now self.new.at self.new.out.now }
+    {
+        let end = self.at + piece.len();
+        self.out[self.at..end].copy_from_slice(piece);
+        self.at = end;
     }
-    to
-}
 
-// A number in decimal: its tenth part, then its last digit.
-pub fn put_decimal(out: &mut [u8], at: usize, n: u64) -> usize
-    requires { at + length (decimal n) ≤ length out.old }
-    ensures { Puts out.old at (decimal n) result out.new }
-{
-    if n < 10 {
-        out[at] = b'0' + n as u8;
-        return at + 1;
+    // Bytes in hex.
+    pub fn hex(&mut self, bytes: &[u8])
+        requires { self.old.at + 2 * length bytes.now ≤ length self.old.out.now }
+        ensures same_room { self.new.out.ghost_name ≡ self.old.out.ghost_name }
+        ensures as_long { length self.new.out.now ≡ length self.old.out.now }
+        ensures puts { Puts self.old.out.now self.old.at (hex bytes.now) self.new.at self.new.out.now }
+    {
+        for byte in bytes {
+            self.put(&[digit_of(byte / 16), digit_of(byte % 16)]);
+        }
     }
-    let to = put_decimal(out, at, n / 10);
-    out[to] = b'0' + (n % 10) as u8;
-    to + 1
-}
 
-// A line of a number with this name.
-pub fn put_number(out: &mut [u8], at: usize, name: &[u8], n: u64) -> usize
-    requires { at + length name.now + most_number ≤ length out.old }
-    ensures puts { Puts out.old at (line name.now (decimal n)) result out.new }
-    ensures upper_bound { result ≤ at + length name.now + most_number }
-{
-    let named = put(out, at, name);
-    let numbered = put_decimal(out, named, n);
-    put(out, numbered, b"\n")
-}
+    // A number in decimal: its tenth part, then its last digit.
+    pub fn decimal(&mut self, n: u64)
+        requires { self.old.at + length (decimal n) ≤ length self.old.out.now }
+        ensures same_room { self.new.out.ghost_name ≡ self.old.out.ghost_name }
+        ensures as_long { length self.new.out.now ≡ length self.old.out.now }
+        ensures puts { Puts self.old.out.now self.old.at (decimal n) self.new.at self.new.out.now }
+    {
+        if n >= 10 {
+            self.decimal(n / 10);
+        }
+        self.put(&[b'0' + (n % 10) as u8]);
+    }
 
-// A line of text with this name.
-pub fn put_line(out: &mut [u8], at: usize, name: &[u8], value: &[u8]) -> usize
-    requires { at + length name.now + length value.now < length out.old }
-    ensures { Puts out.old at (line name.now value.now) result out.new }
-{
-    let named = put(out, at, name);
-    let valued = put(out, named, value);
-    put(out, valued, b"\n")
-}
+    // A line of a number with this name.
+    pub fn number(&mut self, name: &[u8], n: u64)
+        requires { self.old.at + length name.now + most_number ≤ length self.old.out.now }
+        ensures same_room { self.new.out.ghost_name ≡ self.old.out.ghost_name }
+        ensures as_long { length self.new.out.now ≡ length self.old.out.now }
+        ensures puts { Puts self.old.out.now self.old.at (line name.now (decimal n)) self.new.at self.new.out.now }
+        ensures upper_bound { self.new.at ≤ self.old.at + length name.now + most_number }
+    {
+        self.put(name);
+        self.decimal(n);
+        self.put(b"\n");
+    }
 
-// A line of bytes in hex with this name.
-pub fn put_hex_line(out: &mut [u8], at: usize, name: &[u8], bytes: &[u8]) -> usize
-    requires { at + length name.now + 2 * length bytes.now < length out.old }
-    ensures { Puts out.old at (line name.now (hex bytes.now)) result out.new }
-{
-    let named = put(out, at, name);
-    let valued = put_hex(out, named, bytes);
-    put(out, valued, b"\n")
+    // A line of text with this name.
+    pub fn line(&mut self, name: &[u8], value: &[u8])
+        requires { self.old.at + length name.now + length value.now < length self.old.out.now }
+        ensures same_room { self.new.out.ghost_name ≡ self.old.out.ghost_name }
+        ensures as_long { length self.new.out.now ≡ length self.old.out.now }
+        ensures puts { Puts self.old.out.now self.old.at (line name.now value.now) self.new.at self.new.out.now }
+    {
+        self.put(name);
+        self.put(value);
+        self.put(b"\n");
+    }
+
+    // A line of bytes in hex with this name.
+    pub fn hex_line(&mut self, name: &[u8], bytes: &[u8])
+        requires { self.old.at + length name.now + 2 * length bytes.now < length self.old.out.now }
+        ensures same_room { self.new.out.ghost_name ≡ self.old.out.ghost_name }
+        ensures as_long { length self.new.out.now ≡ length self.old.out.now }
+        ensures puts { Puts self.old.out.now self.old.at (line name.now (hex bytes.now)) self.new.at self.new.out.now }
+    {
+        self.put(name);
+        self.hex(bytes);
+        self.put(b"\n");
+    }
 }

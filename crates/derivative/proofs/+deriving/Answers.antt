@@ -2,128 +2,115 @@
 -- before it left in the room. The measure is eight times the place that is still to derive, the larger of two, and more the further the
 -- function stands from deriving it: a child stands lower than its parent. A right part that is not asked for counts nothing.
 use native.Mathlib.Omega.{arith}
-use Rattle.derivative.proofs.Laws.Rooms.{first_next, parts_stopped, right_stopped, right_made, parts_derived, product_next, product_full, product_placed, right_unasked, unpaid, parts_lower, visited_leaf, visited_parts}
+use mathlib.Core.Path.{refl}
+use Rattle.std.specs.declared.result.Result.TheVariants.{Ok, Err}
+use Rattle.refusals.specs.declared.refusal.Refusal.TheVariants.{NoFreePlace, NoBudgetLeft}
+use Rattle.std.proofs.lemmas.Result.{err_from_is_err_and}
+use Rattle.records.specs.Kind.{choice_kind}
+use Rattle.store.specs.Making.{make}
+use Rattle.store.specs.Work.{store_of, space_of}
+use Rattle.store.proofs.Laws.Told.{makes_told, full_by}
+use Rattle.derivative.specs.Parts.{product_of}
+use Rattle.derivative.proofs.Laws.Told.{comes_room, room_comes, derived_of_made}
+use Rattle.derivative.proofs.Laws.Rooms.{right_made, parts_derived, product_next, product_full, product_placed, product_good, choice_good, right_unasked, unpaid, visited_leaf, visited_parts, derived_inside, derived_grows}
 use Rattle.derivative.proofs.+deriving.Goals as goal
 
-pub derive-returns-then-budget-fee : goal.derive-returns-then-budget-fee
-derive-returns-then-budget-fee t c =
-    let s = c in
-    unpaid s.args.letter s.requires.good_store s.args.place s.requires.place_lt_places s.args.budget
-    c.price-fee.ensures
-    c.if-budget-fee.true
+pub derive-returns-then-work-fee-clause-comes : goal.derive-returns-then-work-fee-clause-comes
+derive-returns-then-work-fee-clause-comes t c =
+    let a = c.args in
+    λ depth l.
+    room_comes _ (Err NoBudgetLeft)
+    (unpaid a.letter a.work.now.good a.place c.requires a.work.now.budget c.price-fee.ensures c.if-work-fee.true depth l)
 
-pub derive-derive_parts-requires : goal.derive-derive_parts-requires
-derive-derive_parts-requires t c =
-    let s = c in
-    let l = parts_lower s.args.letter s.requires.good_store s.args.place s.requires.place_lt_places
-    c.visit-visited.ensures
-    c.in-Parts.is in
-    let a = l.left_lower in
-    let b = l.both_lower in
-    (omega arith, (s.requires.good_store, (omega arith, l.right_inside)))
+pub derive-returns-in-Leaf-clause-comes : goal.derive-returns-in-Leaf-clause-comes
+derive-returns-in-Leaf-clause-comes t c =
+    let a = c.args in
+    λ depth l.
+    room_comes _ (Ok c.in-Leaf.next)
+    (visited_leaf a.letter a.work.now.good a.place c.requires a.work.now.budget
+    c.price-fee.ensures c.if-work-fee.false c.visit.ensures c.in-Leaf.is depth l)
 
-pub derive-returns-in-Leaf : goal.derive-returns-in-Leaf
-derive-returns-in-Leaf t c =
-    let s = c in
-    visited_leaf s.args.letter s.requires.good_store s.args.place s.requires.place_lt_places s.args.budget
-    c.price-fee.ensures
-    c.if-budget-fee.false
-    c.visit-visited.ensures
-    c.in-Leaf.is
+pub derive-returns-in-Parts-clause-comes : goal.derive-returns-in-Parts-clause-comes
+derive-returns-in-Parts-clause-comes t c =
+    let a = c.args in
+    λ depth l.
+    room_comes _ c.derive_parts.result
+    (visited_parts a.letter a.work.now.good a.place c.requires a.work.now.budget
+    c.price-fee.ensures c.if-work-fee.false c.visit.ensures c.in-Parts.is
+    (λ d m n. comes_room (c.derive_parts.ensures.comes d m n)) depth l)
 
-pub derive-returns-in-Parts : goal.derive-returns-in-Parts
-derive-returns-in-Parts t c =
-    let s = c in
-    visited_parts s.args.letter s.requires.good_store s.args.place s.requires.place_lt_places s.args.budget
-    c.price-fee.ensures
-    c.if-budget-fee.false
-    c.visit-visited.ensures
-    c.in-Parts.is
-    c.derive_parts.ensures
+pub derive-returns-in-Leaf-clause-inside : goal.derive-returns-in-Leaf-clause-inside
+derive-returns-in-Leaf-clause-inside t c =
+    derived_inside c.args.letter c.ranges.letter.fits c.args.place c.requires (derive-returns-in-Leaf-clause-comes t c)
 
-pub derive_parts-with_left-requires : goal.derive_parts-with_left-requires
-derive_parts-with_left-requires t c =
-    let s = c in
-    let n = first_next s.args.letter s.ranges.letter.fits s.requires.good_store s.args.left s.args.budget s.requires.left_lt_places.0
-    c.derive_part-first.ensures
-    c.in-At.is in
-    (omega arith, (n.good, (n.inside, omega (arith, n.more, s.requires.left_lt_places.1))))
+pub derive-returns-in-Parts-clause-inside : goal.derive-returns-in-Parts-clause-inside
+derive-returns-in-Parts-clause-inside t c =
+    derived_inside c.args.letter c.ranges.letter.fits c.args.place c.requires (derive-returns-in-Parts-clause-comes t c)
 
-pub derive_parts-returns-in-At : goal.derive_parts-returns-in-At
-derive_parts-returns-in-At t c =
-    let s = c in
-    parts_derived s.args.letter s.ranges.letter.fits s.requires.good_store s.args.left s.args.budget s.requires.left_lt_places.0
-    c.derive_part-first.ensures
-    c.in-At.is
-    s.args.right s.requires.left_lt_places.1 s.args.product s.args.both
-    c.with_left.ensures
+pub derive-returns-in-Parts-clause-grows : goal.derive-returns-in-Parts-clause-grows
+derive-returns-in-Parts-clause-grows t c =
+    derived_grows c.args.letter c.ranges.letter.fits c.args.place c.requires (derive-returns-in-Parts-clause-comes t c)
 
-pub derive_parts-returns-in-Stopped : goal.derive_parts-returns-in-Stopped
-derive_parts-returns-in-Stopped t c =
-    let s = c in
-    parts_stopped s.args.letter s.ranges.letter.fits s.requires.good_store s.args.left s.args.budget s.requires.left_lt_places.0
-    c.derive_part-first.ensures
-    c.in-Stopped.is
-    s.args.right s.args.product s.args.both
+pub derive_parts-returns-clause-comes : goal.derive_parts-returns-clause-comes
+derive_parts-returns-clause-comes t c =
+    let a = c.args in
+    λ depth l m.
+    room_comes _ c.with_left.result
+    (parts_derived a.letter c.ranges.letter.fits a.work.now.good a.left a.work.now.budget c.requires.0
+    (λ d k. comes_room (c.in_ok-x.ensures.comes d k)) refl
+    a.right c.requires.1 a.product a.both (λ d k. comes_room (c.with_left.ensures.comes d k)) depth l m)
+
+pub with_left-invariant_of-work : goal.with_left-invariant_of-work
+with_left-invariant_of-work t c = record { good = product_good c.args.work.now.good c.requires c.args.product c.product_of.ensures }
+
+pub with_left-returns-in_err-y-clause-comes : goal.with_left-returns-in_err-y-clause-comes
+with_left-returns-in_err-y-clause-comes t c =
+    let a = c.args in
+    let told = err_from_is_err_and c.from_residual.result c.from_residual.ensures.1 in
+    let made = c.in_err-y.ensures in
+    let making = product_of (space_of a.work.now) (store_of a.work.now) a.x a.right a.product in
+    λ depth l.
+    rw (told.1, told.2, full_by making made.answers)
+    (room_comes _ (Err NoFreePlace)
+    (product_full a.letter c.ranges.letter.fits a.work.now.good a.x a.right a.work.now.budget c.requires a.product a.both
+    (makes_told made, made.leaves) refl depth l))
 
 pub with_left-with_right-requires : goal.with_left-with_right-requires
 with_left-with_right-requires t c =
-    let s = c in
-    let n = product_next s.args.letter s.ranges.letter.fits s.requires.good_store s.args.x s.args.right s.args.budget s.requires.x_lt_places s.args.product s.args.both
-    (c.product_of-so_far.ensures.value, c.product_of-so_far.ensures.room_after)
-    c.in-Placed.is in
-    (omega arith, (n.good, (n.inside, omega (arith, n.more, s.requires.x_lt_places.1))))
+    let a = c.args in
+    let made = c.in_ok-y.ensures in
+    let n = product_next a.letter c.ranges.letter.fits a.work.now.good a.x a.right a.work.now.budget c.requires a.product a.both
+    (makes_told made, made.leaves) refl in
+    (omega arith, (n.inside, omega (arith, n.more, c.requires.1)))
 
-pub with_left-returns-in-Placed : goal.with_left-returns-in-Placed
-with_left-returns-in-Placed t c =
-    let s = c in
-    product_placed s.args.letter s.ranges.letter.fits s.requires.good_store s.args.x s.args.right s.args.budget s.requires.x_lt_places s.args.product s.args.both
-    (c.product_of-so_far.ensures.value, c.product_of-so_far.ensures.room_after)
-    c.in-Placed.is
-    c.with_right.ensures
+pub with_left-returns-clause-comes : goal.with_left-returns-clause-comes
+with_left-returns-clause-comes t c =
+    let a = c.args in
+    let made = c.in_ok-y.ensures in
+    λ depth l.
+    room_comes _ c.with_right.result
+    (product_placed a.letter c.ranges.letter.fits a.work.now.good a.x a.right a.work.now.budget c.requires a.product a.both
+    (makes_told made, made.leaves) refl
+    (λ d k. comes_room (c.with_right.ensures.comes d k)) depth l)
 
-pub with_left-returns-in-Full : goal.with_left-returns-in-Full
-with_left-returns-in-Full t c =
-    let s = c in
-    product_full s.args.letter s.ranges.letter.fits s.requires.good_store s.args.x s.args.right s.args.budget s.requires.x_lt_places s.args.product s.args.both
-    (c.product_of-so_far.ensures.value, c.product_of-so_far.ensures.room_after)
-    c.in-Full.is
+pub with_right-returns-then-not-both-clause-comes : goal.with_right-returns-then-not-both-clause-comes
+with_right-returns-then-not-both-clause-comes t c =
+    let a = c.args in
+    λ depth l. room_comes _ (Ok a.x) (right_unasked a.letter a.work.now.good a.x a.right a.work.now.budget c.if-not-both.true depth l)
 
-pub with_right-returns-then-not-both : goal.with_right-returns-then-not-both
-with_right-returns-then-not-both t c =
-    let s = c in
-    right_unasked s.args.letter s.requires.good_store s.args.x s.args.right s.args.budget c.if-not-both.true
+pub with_right-invariant_of-work : goal.with_right-invariant_of-work
+with_right-invariant_of-work t c =
+    let i = c.in_ok-y.ensures in
+    record { good = choice_good c.derive.new.work.good (omega (arith, i.grows, c.requires.0), i.inside) c.make.ensures }
 
-pub with_right-derive_part-second-requires : goal.with_right-derive_part-second-requires
-with_right-derive_part-second-requires t c =
-    let s = c in
-    let e = rw c.if-not-both.false at s.decreases in
-    (omega arith, (s.requires.good_store, s.requires.x_lt_places.1))
-
-pub with_right-make-requires : goal.with_right-make-requires
-with_right-make-requires t c =
-    let s = c in
-    let n = first_next s.args.letter s.ranges.letter.fits s.requires.good_store s.args.right s.args.budget s.requires.x_lt_places.1
-    c.derive_part-second.ensures
-    c.in-At.is in
-    record { good_store = n.good; left_lt_places = (omega (arith, n.more, s.requires.x_lt_places.0), n.inside) }
-
-pub with_right-returns-in-At : goal.with_right-returns-in-At
-with_right-returns-in-At t c =
-    let s = c in
-    right_made s.args.letter s.ranges.letter.fits s.requires.good_store s.args.right s.args.budget s.requires.x_lt_places.1
-    c.derive_part-second.ensures
-    c.in-At.is
-    s.args.x s.requires.x_lt_places.0
-    (c.make.ensures.value, c.make.ensures.room_after)
-    c.made.ensures
-    c.if-not-both.false
-
-pub with_right-returns-in-Stopped : goal.with_right-returns-in-Stopped
-with_right-returns-in-Stopped t c =
-    let s = c in
-    right_stopped s.args.letter s.ranges.letter.fits s.requires.good_store s.args.right s.args.budget s.requires.x_lt_places.1
-    c.derive_part-second.ensures
-    c.in-Stopped.is
-    s.args.x
-    c.if-not-both.false
+pub with_right-returns-clause-comes : goal.with_right-returns-clause-comes
+with_right-returns-clause-comes t c =
+    let a = c.args in
+    let w = c.derive.new.work in
+    let made = c.make.ensures in
+    let making = make (space_of w) (store_of w) choice_kind 0 a.x c.in_ok-y.y in
+    λ depth l.
+    room_comes _ c.make.result
+    (right_made a.letter c.ranges.letter.fits a.work.now.good a.right a.work.now.budget c.requires.1
+    (λ d k. comes_room (c.in_ok-y.ensures.comes d k)) refl
+    a.x c.requires.0 (makes_told made, made.leaves) (derived_of_made making made.answers c.make.new.places w.budget) c.if-not-both.false depth l)

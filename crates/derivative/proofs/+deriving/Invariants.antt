@@ -12,9 +12,6 @@ larger a b = a + (b - a)
 abbrev pub decreases-derive : goal.decreases-derive
 decreases-derive l = 8 * l.place
 
-abbrev pub decreases-derive_part : goal.decreases-derive_part
-decreases-derive_part l = 8 * l.place + 1
-
 abbrev pub decreases-derive_parts : goal.decreases-derive_parts
 decreases-derive_parts l = 8 * larger l.left (cond l.both l.right 0) + 4
 

@@ -1,8 +1,11 @@
 -- Deriving in a room: what the code answers of a derivation and the room that it leaves are what the next step of it goes on from, since
 -- the store that a derivation comes to is good again and stands in the room that was left.
-use Rattle.std.specs.Prelude.{ℕ, zero, suc, ◌-◌, ◌<◌, ◌≤◌, Bool, true, false, cond, List, ◌≡◌, refl, length}
+use Rattle.std.specs.Prelude.{ℕ, zero, suc, IfOk, ◌-◌, ◌<◌, ◌≤◌, Bool, true, false, cond, List, ◌≡◌, refl, length}
 use Rattle.std.proofs.Common.{arith, sym, ◌∙◌, ap, ap₂, subst}
+use Rattle.std.specs.declared.result.Result.{Result}
+use Rattle.std.specs.declared.result.Result.TheVariants.{Ok, Err}
 use Rattle.language.specs.Word.{IsByte}
+use Rattle.refusals.specs.declared.refusal.Refusal.{Refusal}
 use Rattle.records.specs.declared.kind.Kind.{Kind}
 use Rattle.records.specs.declared.kind.Kind.TheVariants.{Nothing, EmptyWord, Letter, Choice, Sequence, Repeat, Unknown}
 use Rattle.records.specs.declared.record.Record.{Record}
@@ -10,8 +13,10 @@ use Rattle.records.specs.Record.{record_at, child}
 use Rattle.records.specs.Kind.{kind_of, columns, choice_kind, sequence_kind}
 use Rattle.cards.specs.Mark.{marked}
 use Rattle.cards.specs.Standing.{LineOf, Line}
-use Rattle.store.proofs.Laws.Told.{Made}
-use Rattle.store.proofs.Laws.Told.{Placed, Full}
+use Rattle.store.specs.declared.work.Work.{Work}
+use Rattle.store.specs.Work.{store_of, space_of}
+use Rattle.store.specs.Told.{Makes}
+use Rattle.store.proofs.Laws.Told.{Made, Placed, Full}
 use Rattle.store.specs.Room.{store_in, places_of, laid}
 use Rattle.store.specs.Making.{Making, placed, full, make, after}
 use Rattle.store.proofs.Laws.Told.{told_making}
@@ -26,6 +31,7 @@ use Rattle.derivative.specs.declared.Visited.{Visited}
 use Rattle.derivative.specs.declared.Visited.TheVariants.{Leaf, Parts}
 use Rattle.derivative.specs.Derivative.{Deriving, derived, stopped, price, and_then, of_making, making, after_product, derive_record, derive_to}
 use Rattle.derivative.specs.Parts.{asks, asked, product_of, with_left, derive_parts, derive_asked}
+use Rattle.derivative.specs.Told.{deriving_told, Comes}
 use Rattle.derivative.proofs.Laws.Told.{after_deriving, ComesRoom, of_made}
 use Rattle.derivative.proofs.Laws.Steps.{Step, StepLaw, was_done, was_ended, two_makeable, making_law}
 use Rattle.derivative.proofs.Laws.Derivative.{is_unpaid, is_paid, derive_to_law}
@@ -198,6 +204,25 @@ comes_made : {room : List ℕ} (m : Making) (budget : ℕ) {told : Made} {exit :
 comes_made (placed place store) budget e l f = record { answers = f ∙ ap (λ (t : Made). of_made t budget) e; leaves = l }
 comes_made (full store) budget e l f = record { answers = f ∙ ap (λ (t : Made). of_made t budget) e; leaves = l }
 
+-- What a making leaves in a room is good again, whether it came to a place or found none free.
+made_good : {room : List ℕ} {places : ℕ} → GoodStore room places → (m : Making) (budget : ℕ) → Keeps (places_of room) (store_in room places) (of_making m budget)
+    → {answer : Result ℕ Refusal} {room' : List ℕ} {places' : ℕ} → Makes room m answer room' places' → GoodStore room' places'
+made_good {room} good (placed place store) budget (derives k l) made = rw (made.leaves, made.taken) (good_after room k good)
+made_good {room} good (full store) budget (stops k) made = rw (made.leaves, made.taken) (good_after room k good)
+
+module _ {room : List ℕ} {places : ℕ} (good : GoodStore room places) {x y : ℕ} (inside : (x < places) × (y < places)) where
+  pub product_good : (product : Bool) {answer : Result ℕ Refusal} {room' : List ℕ} {places' : ℕ}
+      → Makes room (product_of (places_of room) (store_in room places) x y product) answer room' places' → GoodStore room' places'
+  product_good product made =
+      made_good good (product_of (places_of room) (store_in room places) x y product) 0
+      (product_keeps (room_ready good) x y product (in_store room inside.0) (in_store room inside.1) 0) made
+
+  pub choice_good : {answer : Result ℕ Refusal} {room' : List ℕ} {places' : ℕ}
+      → Makes room (make (places_of room) (store_in room places) choice_kind 0 x y) answer room' places' → GoodStore room' places'
+  choice_good made =
+      made_good good (make (places_of room) (store_in room places) choice_kind 0 x y) 0
+      (choice_keeps (room_ready good) x y (in_store room inside.0) (in_store room inside.1) 0) made
+
 -- What each function of the code ensures of a room with a store of so many places, of its answer and of the room that it leaves.
 module _ (letter : ℕ) (room : List ℕ) (places : ℕ) where
   abbrev cap : ℕ
@@ -222,9 +247,29 @@ module _ (letter : ℕ) (room : List ℕ) (places : ℕ) where
       (depth : ℕ) → left < depth → cond both right 0 < depth
       → ComesRoom room (derive_parts (D letter depth cap) cap left right product both store budget) answer exit
 
--- What making ensures of such a room.
-abbrev Makes : List ℕ → Making → Made → List ℕ → Type 0
-Makes room m told exit = (told ≡ told_making m) × (exit ≡ laid (after m) room)
+-- What making ensures of such a room, as the laws go by it.
+abbrev pub MakesRoom : List ℕ → Making → Made → List ℕ → Type 0
+MakesRoom room m told exit = (told ≡ told_making m) × (exit ≡ laid (after m) room)
+
+-- Where a derivation comes to a place, that place is taken, and no place taken is given up.
+keeps_told : {cap : ℕ} {store : List Record} (answer : Result ℕ Refusal) (store' : List Record) (budget : ℕ) → Keeps cap store (deriving_told answer store' budget)
+    → IfOk answer (λ next. next < length store') × (length store ≤ length store')
+keeps_told (Ok place) store' budget (derives k l) = (l, grows_length k.grows)
+keeps_told (Err refusal) store' budget (stops k) = (tt, grows_length k.grows)
+
+module _ (letter : ℕ) (byte : IsByte letter) {w : Work} (place : ℕ) (inside : place < w.places) {answer : Result ℕ Refusal} {w' : Work}
+    (c : (depth : ℕ) → place < depth → Comes w (derive_to depth (space_of w) letter place (store_of w) w.budget) answer w') where
+  kept_inside : IfOk answer (λ next. next < length (store_of w')) × (length (store_of w) ≤ length (store_of w'))
+  kept_inside =
+      keeps_told answer (store_of w') w'.budget
+      (subst (Keeps (space_of w) (store_of w)) (c (suc place) (omega arith)).is
+      (derive_keeps letter byte (suc place) (room_ready w.good) place (omega arith) (in_store w.room.now inside) w.budget))
+
+  pub derived_inside : IfOk answer (λ next. next < w'.places)
+  derived_inside = rw (length_store_in w'.room.now w'.places) at kept_inside.0
+
+  pub derived_grows : w.places ≤ w'.places
+  derived_grows = rw (length_store_in w.room.now w.places, length_store_in w'.room.now w'.places) at kept_inside.1
 
 module _ (letter : ℕ) (byte : IsByte letter) {room : List ℕ} {places : ℕ} (good : GoodStore room places) where
   -- A place is derived first.
@@ -235,16 +280,6 @@ module _ (letter : ℕ) (byte : IsByte letter) {room : List ℕ} {places : ℕ} 
 
     pub first_next : {x taken rest : ℕ} → first ≡ At rest x taken → Next places room₁ x taken
     first_next e = next good (first_stands e (suc place) (omega arith))
-
-    -- It was stopped, as the left part or as the right one.
-    module _ {number taken rest : ℕ} (e : first ≡ Stopped number taken rest) where
-      pub parts_stopped : (right : ℕ) (product both : Bool) → DerivesParts letter room places place right product both budget (Stopped number taken rest) room₁
-      parts_stopped right product both depth l m =
-          stopped_then (c depth l) e (λ y s b. with_left (D letter depth (places_of room)) (places_of room) y right product both s b)
-
-      pub right_stopped : (x : ℕ) {both : Bool} → both ≡ true → DerivesRight letter room places x place both budget (Stopped number taken rest) room₁
-      right_stopped x f depth l =
-          rw f (stopped_then (c depth (rw f at l)) e (λ y s b. making (places_of room) choice_kind x y s b))
 
     -- It came to x; `other` is a place that stood before.
     module _ {x taken rest : ℕ} (e : first ≡ At rest x taken) (other : ℕ) (there : other < places) where
@@ -257,7 +292,7 @@ module _ (letter : ℕ) (byte : IsByte letter) {room : List ℕ} {places : ℕ} 
       other_there : other < length (store_in room₁ taken)
       other_there = let m = (first_next e).more in in_store room₁ {places = taken} (omega arith)
 
-      pub right_made : {told : Made} {exit : List ℕ} → Makes room₁ (make (places_of room₁) (store_in room₁ taken) choice_kind 0 other x) told exit
+      pub right_made : {told : Made} {exit : List ℕ} → MakesRoom room₁ (make (places_of room₁) (store_in room₁ taken) choice_kind 0 other x) told exit
           → {answer : Derived} → answer ≡ of_made told rest → {both : Bool} → both ≡ true
           → DerivesRight letter room places other place both budget answer exit
       right_made (t, w) f g depth l =
@@ -275,7 +310,7 @@ module _ (letter : ℕ) (byte : IsByte letter) {room : List ℕ} {places : ℕ} 
 
   -- The product of x with the right part is made first, where it is asked for.
   module _ (x right budget : ℕ) (inside : (x < places) × (right < places)) (product both : Bool) {told : Made} {room₁ : List ℕ}
-      (made : Makes room (product_of (places_of room) (store_in room places) x right product) told room₁) where
+      (made : MakesRoom room (product_of (places_of room) (store_in room places) x right product) told room₁) where
     abbrev producing : Making
     producing = product_of (places_of room) (store_in room places) x right product
 
@@ -310,14 +345,9 @@ right_unasked letter good x right budget e depth l = rw e (derived_here good x b
 
 -- No product is asked for.
 pub product_unasked : {room : List ℕ} {places : ℕ} → GoodStore room places → (x right : ℕ) {product : Bool} → product ≡ false
-    → Makes room (product_of (places_of room) (store_in room places) x right product) (Placed x places) room
+    → MakesRoom room (product_of (places_of room) (store_in room places) x right product) (Placed x places) room
 product_unasked {room} {places} good x right e =
     rw e (ap (Placed x) (sym (length_store_in room places)), sym (laid_same places room good.fits good.bytes))
-
-pub product_asked : (room : List ℕ) (places x right : ℕ) {product : Bool} → product ≡ true → {told : Made} {exit : List ℕ}
-    → Makes room (make (places_of room) (store_in room places) sequence_kind 0 x right) told exit
-    → Makes room (product_of (places_of room) (store_in room places) x right product) told exit
-product_asked room places x right e h = rw e h
 
 -- Once the visit is paid: the definition, kind by kind, is what the record asks for.
 then_derived : (d : Deriving) → and_then d (λ x s b. derived x s b) ≡ d

@@ -13,7 +13,9 @@ use Rattle.store.specs.Room.{laid, store_in}
 use Rattle.store.specs.Work.{store_of}
 use Rattle.store.proofs.Laws.Room.{store_of_laid}
 use Rattle.store.proofs.Laws.GoodRoom.{length_store_in}
-use Rattle.store.proofs.Laws.Told.{Made, Placed, Full}
+use Rattle.store.specs.Making.{Making, placed, full}
+use Rattle.store.specs.Told.{making_answer}
+use Rattle.store.proofs.Laws.Told.{Made, Placed, Full, made_of}
 use Rattle.derivative.specs.Derivative.{Deriving, derived, stopped}
 use Rattle.derivative.specs.Both.{DerivingBoth, both_derived, one_stopped}
 use Rattle.derivative.specs.Told.{deriving_told, Comes, both_told, BothCome}
@@ -69,6 +71,12 @@ derived_of (Err refusal) taken budget = Stopped (number refusal) taken budget
 abbrev pub both_of : Result (ℕ × ℕ) Refusal → ℕ → ℕ → Both
 both_of (Ok p) taken budget = BothAt p.0 p.1 taken budget
 both_of (Err refusal) taken budget = OneStopped (number refusal) taken budget
+
+-- A making's answer tells the same of the derivation that it ends.
+pub derived_of_made : (m : Making) {answer : Result ℕ Refusal} → answer ≡ making_answer m → (taken budget : ℕ)
+    → derived_of answer taken budget ≡ of_made (made_of answer taken) budget
+derived_of_made (placed place store) e taken budget = rw e refl
+derived_of_made (full store) e taken budget = rw e refl
 
 -- From what a contract says to what the laws of rooms go by.
 

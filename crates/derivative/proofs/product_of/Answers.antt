@@ -1,15 +1,9 @@
--- `product_of` answers as the definition does, by what is asked for.
-use Rattle.derivative.proofs.Laws.Rooms.{product_asked, product_unasked}
+-- `product_of` answers x, and leaves the room as it is, where no product is asked for.
+use Rattle.store.proofs.Laws.Told.{told_placed}
+use Rattle.derivative.proofs.Laws.Rooms.{product_unasked}
 use Rattle.derivative.proofs.product_of.Goals as goal
-
-pub returns-then-product : goal.returns-then-product
-returns-then-product c =
-    let s = c in
-    let told = product_asked s.args.room.now s.args.places s.args.x s.args.right c.if-product.true (c.make.ensures.value, c.make.ensures.room_after) in
-    record { value = told.0; room_after = told.1 }
 
 pub returns-else-product : goal.returns-else-product
 returns-else-product c =
-    let s = c in
-    let told = product_unasked s.requires.good_store s.args.x s.args.right c.if-product.false in
-    record { value = told.0; room_after = told.1 }
+    let told = product_unasked c.requires.good_store c.args.x c.args.right c.if-product.false in
+    told_placed told.0 told.1

@@ -5,69 +5,29 @@ use Rattle.derivative.specs.declared.Visited.TheVariants.{Leaf}
 use Rattle.derivative.proofs.Laws.Rooms.{children_lower, asked_by}
 use Rattle.derivative.proofs.visit.Goals as goal
 
-pub marked_at-requires : goal.marked_at-requires
-marked_at-requires c =
-    let s = c in
-    let l = children_lower s.args.letter s.requires.good_store s.args.place s.requires.place_lt_places
-    c.read-r.ensures
-    c.named.ensures
-    c.in-Sequence.is in
-    record { good_store = s.requires.good_store; place_lt_places = omega arith }
+pub marked_at-requires-clause-place_lt_places : goal.marked_at-requires-clause-place_lt_places
+marked_at-requires-clause-place_lt_places c =
+    let a = c.args in
+    let l = children_lower a.letter a.work.now.good a.place c.requires c.read-r.ensures c.from.ensures c.in-Sequence.is in
+    omega (arith, l.left)
 
 pub returns-in-Nothing : goal.returns-in-Nothing
-returns-in-Nothing c =
-    let s = c in
-    asked_by s.args.letter s.requires.good_store s.args.place s.requires.place_lt_places
-    c.read-r.ensures
-    c.named.ensures
-    c.in-Nothing.is
+returns-in-Nothing c = let a = c.args in asked_by a.letter a.work.now.good a.place c.requires c.read-r.ensures c.from.ensures c.in-Nothing.is
 
 pub returns-in-EmptyWord : goal.returns-in-EmptyWord
-returns-in-EmptyWord c =
-    let s = c in
-    asked_by s.args.letter s.requires.good_store s.args.place s.requires.place_lt_places
-    c.read-r.ensures
-    c.named.ensures
-    c.in-EmptyWord.is
+returns-in-EmptyWord c = let a = c.args in asked_by a.letter a.work.now.good a.place c.requires c.read-r.ensures c.from.ensures c.in-EmptyWord.is
 
 pub returns-in-Letter : goal.returns-in-Letter
-returns-in-Letter c =
-    let s = c in
-    ap Leaf c.as_mark.ensures
-    ∙ asked_by s.args.letter s.requires.good_store s.args.place s.requires.place_lt_places
-    c.read-r.ensures
-    c.named.ensures
-    c.in-Letter.is
+returns-in-Letter c = let a = c.args in ap Leaf c.as_mark.ensures ∙ asked_by a.letter a.work.now.good a.place c.requires c.read-r.ensures c.from.ensures c.in-Letter.is
 
 pub returns-in-Choice : goal.returns-in-Choice
-returns-in-Choice c =
-    let s = c in
-    asked_by s.args.letter s.requires.good_store s.args.place s.requires.place_lt_places
-    c.read-r.ensures
-    c.named.ensures
-    c.in-Choice.is
+returns-in-Choice c = let a = c.args in asked_by a.letter a.work.now.good a.place c.requires c.read-r.ensures c.from.ensures c.in-Choice.is
 
 pub returns-in-Sequence : goal.returns-in-Sequence
-returns-in-Sequence c =
-    let s = c in
-    rw c.marked_at.ensures
-    (asked_by s.args.letter s.requires.good_store s.args.place s.requires.place_lt_places
-    c.read-r.ensures
-    c.named.ensures
-    c.in-Sequence.is)
+returns-in-Sequence c = let a = c.args in rw c.marked_at.ensures (asked_by a.letter a.work.now.good a.place c.requires c.read-r.ensures c.from.ensures c.in-Sequence.is)
 
 pub returns-in-Repeat : goal.returns-in-Repeat
-returns-in-Repeat c =
-    let s = c in
-    asked_by s.args.letter s.requires.good_store s.args.place s.requires.place_lt_places
-    c.read-r.ensures
-    c.named.ensures
-    c.in-Repeat.is
+returns-in-Repeat c = let a = c.args in asked_by a.letter a.work.now.good a.place c.requires c.read-r.ensures c.from.ensures c.in-Repeat.is
 
 pub returns-in-Unknown : goal.returns-in-Unknown
-returns-in-Unknown c =
-    let s = c in
-    asked_by s.args.letter s.requires.good_store s.args.place s.requires.place_lt_places
-    c.read-r.ensures
-    c.named.ensures
-    c.in-Unknown.is
+returns-in-Unknown c = let a = c.args in asked_by a.letter a.work.now.good a.place c.requires c.read-r.ensures c.from.ensures c.in-Unknown.is

@@ -14,15 +14,16 @@ use Rattle.records.specs.Kind.{kind_of, columns}
 use Rattle.cards.specs.Standing.{ChildField, Line}
 use Rattle.cards.proofs.Laws.Line.{lower_left, lower_right, field_same}
 use Rattle.records.specs.Laws.Record.{record_at_place, length_records}
-use Rattle.store.proofs.Laws.Told.{Made}
-use Rattle.store.proofs.Laws.Told.{Placed, Full}
-use Rattle.loading.proofs.Laws.Told.{Loaded}
-use Rattle.loading.proofs.Laws.Told.{All, Full as AllFull}
+use Rattle.std.specs.declared.result.Result.{Result}
+use Rattle.std.specs.declared.result.Result.TheVariants.{Ok, Err}
+use Rattle.refusals.specs.declared.refusal.Refusal.{Refusal}
+use Rattle.refusals.specs.declared.refusal.Refusal.TheVariants.{NoFreePlace}
+use Rattle.store.specs.Told.{Makes}
+use Rattle.store.proofs.Laws.Told.{Made, Placed, Full, told_making, made_of, makes_told, full_by}
+use Rattle.loading.proofs.Laws.Told.{Loaded, All, Full as AllFull, told_loading}
 use Rattle.store.specs.Room.{store_in, places_of, laid}
 use Rattle.store.specs.Making.{Making, make, after}
 use Rattle.loading.specs.Loading.{Loading, loaded, child_place, left_place, right_place, make_loaded, load_after, load, after_loading}
-use Rattle.store.proofs.Laws.Told.{told_making}
-use Rattle.loading.proofs.Laws.Told.{told_loading}
 use Rattle.loading.specs.Told.{Mapped}
 use Rattle.store.specs.Good.{GoodStore}
 use Rattle.loading.specs.Told.{Loadable}
@@ -31,7 +32,7 @@ use Rattle.store.specs.Laws.Wall.{Kept}
 use Rattle.store.proofs.Laws.Wall.{grows_length, kept_refl, kept_trans, Makeable, MakeLaw, was_placed, was_full}
 use Rattle.store.proofs.Laws.Making.{make_law}
 use Rattle.loading.proofs.Laws.Loading.{GoodCard, Standing, go_on, can, next_standing}
-use Rattle.store.proofs.Laws.GoodRoom.{room_ready, length_store_in, length_after, places_after, store_after, good_after}
+use Rattle.store.proofs.Laws.GoodRoom.{room_ready, length_store_in, places_after, store_after, good_after}
 
 -- What loading a card into the store of a room comes to.
 abbrev pub loading_in : List ℕ → ℕ → List ℕ → Loading
@@ -44,13 +45,10 @@ Answers room₀ places card answer room map =
     × ((room ≡ laid (after_loading (loading_in room₀ places card)) room₀) × Mapped (loading_in room₀ places card) map)
 
 -- The first `at` records of the card are loaded from `room₀`: their places begin `map`, and `store` stands in `room`.
-pub record Underway (room₀ : List ℕ) (places : ℕ) (card map₀ : List ℕ) (count : ℕ) (room map : List ℕ) (taken at : ℕ) : Type 0 where
+pub record Underway (room₀ : List ℕ) (places : ℕ) (card room map : List ℕ) (taken at : ℕ) : Type 0 where
   pub good : GoodStore room₀ places
   pub good_card : GoodCard (records card)
-  pub counts : count ≡ length card / 8
-  pub passed : at ≤ count
-  pub mapped : count ≤ length map
-  pub as_long : length map ≡ length map₀
+  pub mapped : length card / 8 ≤ length map
   pub store : List Record
   pub room_is : room ≡ laid store room₀
   pub taken_is : taken ≡ length store
@@ -70,16 +68,13 @@ card_is_good card map g b =
 
 -- At first none is loaded.
 pub at_first : (room : List ℕ) (places : ℕ) (card map : List ℕ) → GoodStore room places → Loadable card map → ((i : ℕ) → get_or card i 0 < 256)
-    → Underway room places card map (length card / 8) room map places 0
+    → Underway room places card room map places 0
 unfolding load
 at_first room places card map g h b =
     record {
       good = g;
       good_card = card_is_good card map h b;
-      counts = refl;
-      passed = omega arith;
       mapped = h.mapped;
-      as_long = refl;
       store = store_in room places;
       room_is = sym (laid_same places room g.fits g.bytes);
       taken_is = sym (length_store_in room places);
@@ -92,16 +87,12 @@ at_first room places card map g h b =
 not_both : {told : Made} {place taken stood : ℕ} → told ≡ Placed place taken → told ≡ Full stood → ⊥
 not_both e f = let z : ◌≡◌ {A = ℕ} 0 1 = cc in omega arith
 
-module _ {room₀ : List ℕ} {places : ℕ} {card map₀ : List ℕ} {count : ℕ} {room map : List ℕ} {taken at : ℕ}
-    (u : Underway room₀ places card map₀ count room map taken at) where
+module _ {room₀ : List ℕ} {places : ℕ} {card room map : List ℕ} {taken at : ℕ} (u : Underway room₀ places card room map taken at) where
   abbrev cap : ℕ
   cap = places_of room₀
 
   abbrev store : List Record
   store = u.store
-
-  pub room_as_long : length room ≡ length room₀
-  room_as_long = ap length u.room_is ∙ length_after room₀ u.kept
 
   good_now : GoodStore room taken
   good_now = rw (u.room_is, u.taken_is) (good_after room₀ u.kept u.good)
@@ -113,27 +104,27 @@ module _ {room₀ : List ℕ} {places : ℕ} {card map₀ : List ℕ} {count : �
   store_now = ap₂ store_in u.room_is u.taken_is ∙ store_after room₀ u.kept
 
   -- Where no record is left, all are loaded.
-  pub at_last : count ≤ at → Answers room₀ places card (All taken) room map
+  pub at_last : at ≡ length card / 8 → Answers room₀ places card (All taken) room map
   unfolding load_after
   at_last l =
-      let n : length (take at map) ≡ at = length-take-le at map (let p = u.passed in let m = u.mapped in omega arith) in
-      let e : drop at (records card) ≡ [] = drop_of_length-le (records card) {i = at} (omega (arith, length_records card, u.counts)) in
+      let n : length (take at map) ≡ at = length-take-le at map (let m = u.mapped in omega arith) in
+      let e : drop at (records card) ≡ [] = drop_of_length-le (records card) {i = at} (omega (arith, length_records card)) in
       let f : loading_in room₀ places card ≡ loaded (take at map) store = u.rest ∙ ap (load_after cap store (take at map)) e in
       rw f (ap All u.taken_is, (u.room_is, ap (λ (k : ℕ). take k map) n))
 
   -- The record numbered `at`, read from the card.
-  module _ (l : at < count) {r : Record} (is : r ≡ record_at card at) where
+  module _ (l : at < length card / 8) {r : Record} (is : r ≡ record_at card at) where
     in_map : at < length map
     in_map = let m = u.mapped in omega arith
 
     in_card : at < length (records card)
-    in_card = omega (arith, length_records card, u.counts)
+    in_card = omega (arith, length_records card)
 
     taken_places : length (take at map) ≡ at
     taken_places = length-take-le at map (omega (arith, in_map))
 
     here : child (records card) at ≡ r
-    here = record_at_place card at (omega (arith, u.counts)) ∙ sym is
+    here = record_at_place card at l ∙ sym is
 
     line : Line at r
     line = subst (Line at) here (u.good_card.obeys at in_card).line
@@ -167,6 +158,10 @@ module _ {room₀ : List ℕ} {places : ℕ} {card map₀ : List ℕ} {count : �
     exit_is : {exit : List ℕ} (store' : List Record) → exit ≡ laid store' room → length store ≤ length store' → exit ≡ laid store' room₀
     exit_is store' x n = x ∙ ap (laid store') u.room_is ∙ laid_laid store store' room₀ n
 
+    making_kept : {m : Making} → Law m → Kept cap store (after m)
+    making_kept (was_placed p) = p.kept
+    making_kept (was_full q) = q.kept
+
     full_answers : {stood : ℕ} {told : Made} → told ≡ Full stood → {exit : List ℕ} {m : Making}
         → Law m → told ≡ told_making m → exit ≡ laid (after m) room → Goes m → Answers room₀ places card (AllFull stood) exit map
     full_answers t (was_placed p) w x g = absurd (not_both w t)
@@ -184,17 +179,14 @@ module _ {room₀ : List ℕ} {places : ℕ} {card map₀ : List ℕ} {count : �
 
     placed_underway : {place taken' : ℕ} {told : Made} → told ≡ Placed place taken' → {exit : List ℕ} {m : Making}
         → Law m → told ≡ told_making m → exit ≡ laid (after m) room → Goes m
-        → Underway room₀ places card map₀ count exit (set map at place) taken' (at + 1)
+        → Underway room₀ places card exit (set map at place) taken' (at + 1)
     placed_underway {place} {taken'} t (was_placed {place = place'} {store'} p) w x g =
         let n : place ≡ place' = cc in
         let places-are : take (at + 1) (set map at place) ≡ take at map ++ place' ∷ [] = rw (add-one, take-suc-set map at place in_map, n) in
         record {
           good = u.good;
           good_card = u.good_card;
-          counts = u.counts;
-          passed = omega arith;
           mapped = simp length-set u.mapped;
-          as_long = simp length-set u.as_long;
           store = store';
           room_is = exit_is store' x (grows_length p.kept.grows);
           taken_is = cc;
@@ -225,16 +217,13 @@ module _ {room₀ : List ℕ} {places : ℕ} {card map₀ : List ℕ} {count : �
           (can cap (records card) u.good_card store (take at map) (take at (records card)) r (drop (suc at) (records card))
           split as_many u.kept.ready u.standing)
 
-      children_taken : (left < taken) × (right < taken)
+      pub children_taken : (left < taken) × (right < taken)
       children_taken =
           let some = u.kept.ready.good.some in
           let t = u.taken_is in (
             ⊎_elim (λ h. omega arith) (λ h. omega arith) (lower_left makeable.line),
             ⊎_elim (λ h. omega arith) (λ h. omega arith) (lower_right makeable.line),
           )
-
-      pub can_be_made : GoodStore room taken × ((left < taken) × (right < taken))
-      can_be_made = (good_now, children_taken)
 
       -- What the code makes is what the definition makes.
       made_is : make (places_of room) (store_in room taken) r.kind r.letter left right ≡ make_loaded cap store (take at map) r
@@ -247,19 +236,28 @@ module _ {room₀ : List ℕ} {places : ℕ} {card map₀ : List ℕ} {count : �
       made_law : Law (make_loaded cap store (take at map) r)
       made_law = make_law u.kept.ready (rw (left_is, right_is) at makeable)
 
-      module _ {told : Made} (w : told ≡ told_making (make (places_of room) (store_in room taken) r.kind r.letter left right)) where
-        told_is : told ≡ told_making (make_loaded cap store (take at map) r)
-        told_is = w ∙ ap told_making made_is
+      -- What the code answers, of what the definition makes.
+      module _ {answer : Result ℕ Refusal} {exit : List ℕ} {taken' : ℕ}
+          (makes : Makes room (make (places_of room) (store_in room taken) r.kind r.letter left right) answer exit taken') where
+        told_is : made_of answer taken' ≡ told_making (make_loaded cap store (take at map) r)
+        told_is = makes_told makes ∙ ap told_making made_is
 
-        pub place_fits : {place taken' : ℕ} → told ≡ Placed place taken' → place < 65536
-        place_fits t = placed_fits t made_law told_is
+        exit_made : exit ≡ laid (after (make_loaded cap store (take at map) r)) room
+        exit_made = makes.leaves ∙ ap (λ (m : Making). laid (after m) room) made_is
 
-        module _ {exit : List ℕ} (x : exit ≡ laid (after (make (places_of room) (store_in room taken) r.kind r.letter left right)) room) where
-          exit_made : exit ≡ laid (after (make_loaded cap store (take at map) r)) room
-          exit_made = x ∙ ap (λ (m : Making). laid (after m) room) made_is
+        -- The store that stands then is good again.
+        pub good_made : GoodStore exit taken'
+        good_made =
+            let kept : Kept (places_of room) store (after (make_loaded cap store (take at map) r)) = rw places_now (making_kept made_law) in
+            rw (exit_made, makes.taken ∙ ap (λ (m : Making). length (after m)) made_is) (good_after room kept good_now)
 
-          pub when_full : {stood : ℕ} → told ≡ Full stood → Answers room₀ places card (AllFull stood) exit map
-          when_full t = full_answers t made_law told_is exit_made go_on_is
+        pub place_fits : {place : ℕ} → answer ≡ Ok place → place < 65536
+        place_fits e = placed_fits (ap (λ (a : Result ℕ Refusal). made_of a taken') e) made_law told_is
 
-          pub when_placed : {place taken' : ℕ} → told ≡ Placed place taken' → Underway room₀ places card map₀ count exit (set map at place) taken' (at + 1)
-          when_placed t = placed_underway t made_law told_is exit_made go_on_is
+        pub when_full : {refusal : Refusal} → answer ≡ Err refusal
+            → (refusal ≡ NoFreePlace) × Answers room₀ places card (AllFull taken') exit map
+        when_full e =
+            (full_by _ (sym e ∙ makes.answers), full_answers (ap (λ (a : Result ℕ Refusal). made_of a taken') e) made_law told_is exit_made go_on_is)
+
+        pub when_placed : {place : ℕ} → answer ≡ Ok place → Underway room₀ places card exit (set map at place) taken' (at + 1)
+        when_placed e = placed_underway (ap (λ (a : Result ℕ Refusal). made_of a taken') e) made_law told_is exit_made go_on_is

@@ -1,6 +1,6 @@
 -- What is told of loading, with the places then taken, as one value: the laws of rooms go by it, and the contracts' `Loads` and `Enters` say the same.
 use Rattle.std.specs.Prelude.{ℕ, List, ◌≡◌, refl, length}
-use Rattle.std.proofs.Common.{arith, sym, ◌∙◌, ap, ap₂}
+use Rattle.std.proofs.Common.{arith, ◌∙◌, ap₂}
 use Rattle.std.specs.declared.result.Result.{Result}
 use Rattle.std.specs.declared.result.Result.TheVariants.{Ok, Err}
 use Rattle.refusals.specs.declared.refusal.Refusal.{Refusal}
@@ -80,13 +80,3 @@ pub told_not_loaded : {w : Work} (l : Loading) {w' : Work} → Full w'.places �
     → w'.budget ≡ w.budget → Loads w l (Err NoFreePlace) w'
 told_not_loaded (loaded places store) e r b = let z : ◌≡◌ {A = ℕ} 0 1 = cc in absurd (omega arith)
 told_not_loaded (no_room store) e r b = record { answers = refl; holds = record { taken = cc; leaves = r }; unspent = b }
-
-pub told_enters : {w : Work} {l : Loading} {place : ℕ} {w' : Work} → EntersRoom w.room.now l (At place w'.places) w'.room.now
-    → w'.budget ≡ w.budget → Enters w l (Ok place) w'
-told_enters {l = loaded places store} k b = let e = k.answers in record { answers = cc; holds = record { taken = cc; leaves = k.leaves }; unspent = b }
-told_enters {l = no_room store} k b = let e = k.answers in let z : ◌≡◌ {A = ℕ} 0 1 = cc in absurd (omega arith)
-
-pub told_not_entered : {w : Work} {l : Loading} {w' : Work} → EntersRoom w.room.now l (NotEntered w'.places) w'.room.now
-    → w'.budget ≡ w.budget → Enters w l (Err NoFreePlace) w'
-told_not_entered {l = loaded places store} k b = let e = k.answers in let z : ◌≡◌ {A = ℕ} 0 1 = cc in absurd (omega arith)
-told_not_entered {l = no_room store} k b = let e = k.answers in record { answers = refl; holds = record { taken = cc; leaves = k.leaves }; unspent = b }

@@ -1,6 +1,6 @@
 -- What is told of opening, with the places then taken, as one value: the laws of rooms go by it, and a contract's `Opens` says the same.
 use Rattle.std.specs.Prelude.{ℕ, false, List, ◌≡◌, refl, length}
-use Rattle.std.proofs.Common.{arith, sym, ◌∙◌, ap, ap₂}
+use Rattle.std.proofs.Common.{arith, ◌∙◌, ap₂}
 use Rattle.std.specs.declared.result.Result.{Result}
 use Rattle.std.specs.declared.result.Result.TheVariants.{Ok, Err}
 use Rattle.refusals.specs.declared.refusal.Refusal.{Refusal}
@@ -49,15 +49,3 @@ opens_room {o} k = record { answers = ap₂ opened_of k.answers k.holds.taken �
 pub opening_full_by : (o : Opening) {refusal : Refusal} → Err refusal ≡ opening_answer o → refusal ≡ NoFreePlace
 opening_full_by (opened x y store) e = let z : ◌≡◌ {A = ℕ} 0 1 = cc in absurd (omega arith)
 opening_full_by (unopened store) e = cc
-
--- The other way: from what is told to what a contract says.
-
-pub told_opens : {w : Work} (o : Opening) {x y : ℕ} {w' : Work} → OpensRoom w.room.now o (OpenedAt x y w'.places) w'.room.now
-    → w'.budget ≡ w.budget → Opens w o (Ok (x, y)) w'
-told_opens (opened a b store) k u = let e = k.answers in record { answers = cc; holds = record { taken = cc; leaves = k.leaves }; unspent = u }
-told_opens (unopened store) k u = let e = k.answers in let z : ◌≡◌ {A = ℕ} 0 1 = cc in absurd (omega arith)
-
-pub told_not_opened : {w : Work} (o : Opening) {w' : Work} → OpensRoom w.room.now o (NotOpened w'.places) w'.room.now
-    → w'.budget ≡ w.budget → Opens w o (Err NoFreePlace) w'
-told_not_opened (opened a b store) k u = let e = k.answers in let z : ◌≡◌ {A = ℕ} 0 1 = cc in absurd (omega arith)
-told_not_opened (unopened store) k u = let e = k.answers in record { answers = refl; holds = record { taken = cc; leaves = k.leaves }; unspent = u }

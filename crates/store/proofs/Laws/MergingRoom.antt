@@ -1,16 +1,17 @@
 -- Merging in a room: where a set is used up the other comes out; else the lower of the two first members is put before the set of what
 -- is left of both, in the room that making this set left.
-use Rattle.std.specs.Prelude.{ℕ, zero, suc, ◌+◌, ◌<◌, ◌≤◌, Bool, true, false, cond, ◌||◌, List, [], ◌∷◌, ◌≡◌, refl, eqb, ltb, length}
+use Rattle.std.specs.Prelude.{ℕ, zero, suc, ◌+◌, ◌<◌, ◌≤◌, min, Bool, true, false, cond, ◌||◌, List, [], ◌∷◌, ◌≡◌, refl, eqb, ltb, length}
 use Rattle.std.proofs.Common.{arith, sym, ◌∙◌, ap, ap₂, subst, length-append, eqb-true, lt-ltb, le-ltb, eq-eqb, ne_eqb}
 use Rattle.std.proofs.lemmas.Bool.{false≢true}
 use Rattle.records.specs.declared.record.Record.{Record}
-use Rattle.store.proofs.Laws.Told.{Made}
-use Rattle.store.proofs.Laws.Told.{Placed, Full}
+use Rattle.std.specs.declared.result.Result.{Result}
+use Rattle.std.specs.declared.result.Result.TheVariants.{Ok, Err}
+use Rattle.refusals.specs.declared.refusal.Refusal.{Refusal}
+use Rattle.refusals.specs.declared.refusal.Refusal.TheVariants.{NoFreePlace}
 use Rattle.store.specs.Room.{store_in, places_of, laid}
-use Rattle.store.specs.Making.{Making, placed, new_record, first, behind, members, merged, put_before, built, set_of_both, after, intern}
+use Rattle.store.specs.Making.{Making, placed, full, new_record, first, behind, members, merged, put_before, built, set_of_both, after, intern}
 use Rattle.store.specs.declared.merging.Side.{Side}
-use Rattle.store.proofs.Laws.Told.{told_making}
-use Rattle.store.specs.Told.{side}
+use Rattle.store.specs.Told.{making_answer, Makes, side}
 use Rattle.store.specs.Good.{SetKind, Good, Set, member, GoodStore}
 use Rattle.store.proofs.Laws.Room.{laid_same, laid_laid}
 use Rattle.store.proofs.Laws.Wall.{grows_refl, grows_length}
@@ -24,6 +25,15 @@ use Rattle.store.proofs.Laws.GoodRoom.{room_ready, length_store_in, places_after
 -- The lower of two places, and what is left of a set behind a member.
 abbrev pub lower_of : ℕ → ℕ → ℕ
 lower_of one other = cond (ltb one other) one other
+
+-- The lower of two is what the code takes.
+min_lower : (one other : ℕ) → min one other ≡ lower_of one other
+min_lower one other = go (order one other)
+  where
+    go : Order one other → min one other ≡ lower_of one other
+    go (lower h) = rw (lt-ltb one other h) (omega arith)
+    go (same h) = rw (le-ltb one other (omega arith)) (omega arith)
+    go (higher h) = rw (le-ltb one other (omega arith)) (omega arith)
 
 abbrev pub left_of : ℕ → List Record → ℕ → ℕ → ℕ
 left_of kind store m place = cond (eqb (first kind store place) m) (behind kind store place) place
@@ -165,22 +175,19 @@ put_before_longer room kind m rest store = go (eqb rest 0)
 
 -- In a room.
 
--- The answer tells what a making comes to, and the room holds its store.
-pub record Tells (room : List ℕ) (m : Making) (answer : Made) (room' : List ℕ) : Type 0 where
-  pub answers : answer ≡ told_making m
-  pub leaves : room' ≡ laid (after m) room
-
 -- Nothing was added.
 pub tells_placed : {room : List ℕ} {places : ℕ} → GoodStore room places → {place : ℕ} {m : Making} → m ≡ placed place (store_in room places)
-    → Tells room m (Placed place places) room
-tells_placed {room} {places} g {place} e =
+    → Makes room m (Ok place) room places
+tells_placed {room} {places} g e =
     record {
-      answers = rw e (ap (Placed place) (sym (length_store_in room places)));
+      answers = sym (ap making_answer e);
+      taken = rw e (sym (length_store_in room places));
       leaves = rw e (sym (laid_same places room g.fits g.bytes));
     }
 
 module _ {kind : ℕ} (set : SetKind kind) {room : List ℕ} {places : ℕ} (g : GoodStore room places) (one other : ℕ) (i : one < places) (j : other < places)
-    {answer : Made} {room' : List ℕ} (t : Tells room (set_of_both (places_of room) kind (store_in room places) one other) answer room') where
+    {answer : Result ℕ Refusal} {room' : List ℕ} {places' : ℕ}
+    (t : Makes room (set_of_both (places_of room) kind (store_in room places) one other) answer room' places') where
   abbrev of_both : List ℕ
   of_both = merged (members kind (store_in room places) one) (members kind (store_in room places) other)
 
@@ -188,13 +195,13 @@ module _ {kind : ℕ} (set : SetKind kind) {room : List ℕ} {places : ℕ} (g :
   rest_made = set_of_both (places_of room) kind (store_in room places) one other
 
   -- The room after the set of what is left, and its place there.
-  record Next (place taken : ℕ) : Type 0 where
-    good : GoodStore room' taken
-    inside : place < taken
-    more : places ≤ taken
-    is : rest_made ≡ placed place (store_in room' taken)
+  record Next (place : ℕ) : Type 0 where
+    good : GoodStore room' places'
+    inside : place < places'
+    more : places ≤ places'
+    is : rest_made ≡ placed place (store_in room' places')
     as_many : places_of room' ≡ places_of room
-    covers : (store : List Record) → taken ≤ length store → laid store room' ≡ laid store room
+    covers : (store : List Record) → places' ≤ length store → laid store room' ≡ laid store room
 
   law : BuildLaw (places_of room) kind (store_in room places) of_both rest_made
   law =
@@ -204,60 +211,60 @@ module _ {kind : ℕ} (set : SetKind kind) {room : List ℕ} {places : ℕ} (g :
       subst (BuildLaw (places_of room) kind (store_in room places) of_both) (sym (by_members set ready.good (places_of room) one other a b))
       (build_law set ready (merged_set (members_set set ready.good one a) (members_set set ready.good other b)))
 
-  next : {place taken : ℕ} → answer ≡ Placed place taken → Next place taken
-  next {place} {taken} e = go law refl
+  next : {place : ℕ} → answer ≡ Ok place → Next place
+  next {place} e = go law refl
     where
-      go : {made : Making} → BuildLaw (places_of room) kind (store_in room places) of_both made → rest_made ≡ made → Next place taken
+      go : {made : Making} → BuildLaw (places_of room) kind (store_in room places) of_both made → rest_made ≡ made → Next place
       go (was_built {place = p} {store' = store'} h) f =
           let r : room' ≡ laid store' room = t.leaves ∙ ap (λ (m : Making). laid (after m) room) f in
-          let k : Placed p (length store') ≡ Placed place taken = sym (t.answers ∙ ap told_making f) ∙ e in
+          let n : places' ≡ length store' = t.taken ∙ ap (λ (m : Making). length (after m)) f in
+          let k : ◌≡◌ {A = Result ℕ Refusal} (Ok p) (Ok place) = sym (t.answers ∙ ap making_answer f) ∙ e in
           let u : p ≡ place = cc in
-          let v : length store' ≡ taken = cc in
-          subst (λ (n : ℕ). Next n taken) u
-          (subst (Next p) v
+          subst Next u
           (record {
-            good = rw r (good_after room h.kept g);
-            inside = h.inside;
-            more = omega (arith, grows_length h.kept.grows, length_store_in room places);
-            is = f ∙ ap (placed p) (sym (ap (λ (s : List ℕ). store_in s (length store')) r ∙ store_after room h.kept));
+            good = rw (r, n) (good_after room h.kept g);
+            inside = omega (arith, n, h.inside);
+            more = omega (arith, n, grows_length h.kept.grows, length_store_in room places);
+            is = f ∙ ap (placed p) (sym (ap₂ store_in r n ∙ store_after room h.kept));
             as_many = ap places_of r ∙ places_after room h.kept;
-            covers = λ store n. ap (laid store) r ∙ laid_laid store' store room n;
-          }))
+            covers = λ store l. ap (laid store) r ∙ laid_laid store' store room (omega (arith, n));
+          })
       go (ran_out {store' = store'} h) f =
-          let k : Full (length store') ≡ Placed place taken = sym (t.answers ∙ ap told_making f) ∙ e in
+          let k : ◌≡◌ {A = Result ℕ Refusal} (Err NoFreePlace) (Ok place) = sym (t.answers ∙ ap making_answer f) ∙ e in
           let z : ◌≡◌ {A = ℕ} 0 1 = cc in
           absurd (omega arith)
 
   -- The room ran out there: so it does here.
-  full_there : (n : ℕ) {whole : Making} {taken : ℕ} → whole ≡ put_before (places_of room) kind n rest_made → answer ≡ Full taken
-      → Tells room whole (Full taken) room'
-  full_there n {whole} {taken} w e = go law refl
+  full_there : (n : ℕ) {whole : Making} {refusal : Refusal} → whole ≡ put_before (places_of room) kind n rest_made → answer ≡ Err refusal
+      → Makes room whole (Err refusal) room' places'
+  full_there n {whole} {refusal} w e = rw w (go rest_made t)
     where
-      go : {made : Making} → BuildLaw (places_of room) kind (store_in room places) of_both made → rest_made ≡ made → Tells room whole (Full taken) room'
-      go (was_built {place = p} {store' = store'} h) f =
-          let k : Placed p (length store') ≡ Full taken = sym (t.answers ∙ ap told_making f) ∙ e in
+      go : (m : Making) → Makes room m answer room' places' → Makes room (put_before (places_of room) kind n m) (Err refusal) room' places'
+      go (placed place store) m =
+          let k : ◌≡◌ {A = Result ℕ Refusal} (Ok place) (Err refusal) = sym m.answers ∙ e in
           let z : ◌≡◌ {A = ℕ} 0 1 = cc in
           absurd (omega arith)
-      go (ran_out {store' = store'} h) f =
-          record {
-            answers = sym e ∙ t.answers ∙ ap told_making (f ∙ sym (w ∙ ap (put_before (places_of room) kind n) f));
-            leaves = t.leaves ∙ ap (λ (m : Making). laid (after m) room) (f ∙ sym (w ∙ ap (put_before (places_of room) kind n) f));
-          }
+      go (full store) m = record { answers = sym e ∙ m.answers; taken = m.taken; leaves = m.leaves }
 
   -- The member was put before what was made there.
-  put_there : (n : ℕ) {whole : Making} {place taken : ℕ} → whole ≡ put_before (places_of room) kind n rest_made → Next place taken
-      → {made : Made} {exit : List ℕ} → Tells room' (put_before (places_of room') kind n (placed place (store_in room' taken))) made exit
-      → Tells room whole made exit
-  put_there n {whole} {place} {taken} w h {made} {exit} u =
-      record { answers = u.answers ∙ ap told_making here; leaves = u.leaves ∙ h.covers _ longer ∙ ap (λ (m : Making). laid (after m) room) here }
+  put_there : (n : ℕ) {whole : Making} {place : ℕ} → whole ≡ put_before (places_of room) kind n rest_made → Next place
+      → {made : Result ℕ Refusal} {exit : List ℕ} {taken : ℕ}
+      → Makes room' (put_before (places_of room') kind n (placed place (store_in room' places'))) made exit taken
+      → Makes room whole made exit taken
+  put_there n {whole} {place} w h u =
+      record {
+        answers = u.answers ∙ ap making_answer here;
+        taken = u.taken ∙ ap (λ (m : Making). length (after m)) here;
+        leaves = u.leaves ∙ h.covers _ longer ∙ ap (λ (m : Making). laid (after m) room) here;
+      }
     where
-      here : put_before (places_of room') kind n (placed place (store_in room' taken)) ≡ whole
+      here : put_before (places_of room') kind n (placed place (store_in room' places')) ≡ whole
       here =
-          ap (λ (c : ℕ). put_before c kind n (placed place (store_in room' taken))) h.as_many
+          ap (λ (c : ℕ). put_before c kind n (placed place (store_in room' places'))) h.as_many
           ∙ ap (put_before (places_of room) kind n) (sym h.is) ∙ sym w
 
-      longer : taken ≤ length (after (put_before (places_of room') kind n (placed place (store_in room' taken))))
-      longer = omega (arith, put_before_longer (places_of room') kind n place (store_in room' taken), length_store_in room' taken)
+      longer : places' ≤ length (after (put_before (places_of room') kind n (placed place (store_in room' places'))))
+      longer = omega (arith, put_before_longer (places_of room') kind n place (store_in room' places'), length_store_in room' places')
 
 -- Two sets of a room's store.
 module _ {kind : ℕ} (set : SetKind kind) {room : List ℕ} {places : ℕ} (g : GoodStore room places) (left right : ℕ)
@@ -275,14 +282,14 @@ module _ {kind : ℕ} (set : SetKind kind) {room : List ℕ} {places : ℕ} (g :
   right_inside = omega (arith, length_store_in room places, inside.1)
 
   -- One is used up, or both are one.
-  pub tells_right : eqb left 0 || eqb left right ≡ true → Tells room whole (Placed right places) room
+  pub tells_right : eqb left 0 || eqb left right ≡ true → Makes room whole (Ok right) room places
   tells_right t = tells_placed g (go (eqb left 0) refl t)
     where
       go : (b : Bool) → eqb left 0 ≡ b → b || eqb left right ≡ true → whole ≡ placed right here
       go true e t = none_left set g.good (places_of room) left right left_inside right_inside (eqb-true left 0 e)
       go false e t = one_set set g.good (places_of room) left right left_inside right_inside (eqb-true left right t)
 
-  pub tells_left : right ≡ 0 → Tells room whole (Placed left places) room
+  pub tells_left : right ≡ 0 → Makes room whole (Ok left) room places
   tells_left e = tells_placed g (none_right set g.good (places_of room) left right left_inside right_inside e)
 
   some_left : eqb left 0 || eqb left right ≡ false → 0 < left
@@ -294,7 +301,7 @@ module _ {kind : ℕ} (set : SetKind kind) {room : List ℕ} {places : ℕ} (g :
 
   -- Neither is: the step that the code takes, with both sets as they were read.
   module _ (t : eqb left 0 || eqb left right ≡ false) (some_right : right ≡ 0 → ⊥)
-      {a b : Side} (is-a : a ≡ side kind here left) (is_b : b ≡ side kind here right) {m : ℕ} (is-lower : m ≡ lower_of a.first b.first)
+      {a b : Side} (is-a : a ≡ side kind here left) (is_b : b ≡ side kind here right) {m : ℕ} (is-lower : m ≡ min a.first b.first)
       {one other : ℕ} (is_one : one ≡ cond (eqb a.first m) a.behind left) (is-other : other ≡ cond (eqb b.first m) b.behind right) where
     q : 0 < right
     q = omega (arith, some_right)
@@ -303,7 +310,7 @@ module _ {kind : ℕ} (set : SetKind kind) {room : List ℕ} {places : ℕ} (g :
     lowest = lower_of (first kind here left) (first kind here right)
 
     step_member : m ≡ lowest
-    step_member = is-lower ∙ ap₂ (λ (a b : Side). lower_of a.first b.first) is-a is_b
+    step_member = is-lower ∙ min_lower a.first b.first ∙ ap₂ (λ (a b : Side). lower_of a.first b.first) is-a is_b
 
     left_behind : (place : ℕ) {s : Side} → s ≡ side kind here place → cond (eqb s.first m) s.behind place ≡ left_of kind here lowest place
     left_behind place e = ap₂ (λ (s : Side) (n : ℕ). cond (eqb s.first n) s.behind place) e step_member
@@ -323,17 +330,18 @@ module _ {kind : ℕ} (set : SetKind kind) {room : List ℕ} {places : ℕ} (g :
     falls = stepped.falls
 
     -- What was made of it, in the room that this left.
-    module _ {answer : Made} {room' : List ℕ} (u : Tells room (set_of_both (places_of room) kind here one other) answer room') where
-      pub can_put : {place taken : ℕ} → answer ≡ Placed place taken → GoodStore room' taken × ((m < taken) × (place < taken))
+    module _ {answer : Result ℕ Refusal} {room' : List ℕ} {places' : ℕ}
+        (u : Makes room (set_of_both (places_of room) kind here one other) answer room' places') where
+      pub can_put : {place : ℕ} → answer ≡ Ok place → GoodStore room' places' × ((m < places') × (place < places'))
       can_put e =
           let h = next set g one other insides.0 insides.1 u e in
           (h.good, (omega (arith, h.more, stepped.inside, length_store_in room places), h.inside))
 
-      pub put : {place taken : ℕ} → answer ≡ Placed place taken → {made : Made} {exit : List ℕ}
-          → Tells room' (put_before (places_of room') kind m (placed place (store_in room' taken))) made exit → Tells room whole made exit
+      pub put : {place : ℕ} → answer ≡ Ok place → {made : Result ℕ Refusal} {exit : List ℕ} {taken : ℕ}
+          → Makes room' (put_before (places_of room') kind m (placed place (store_in room' places'))) made exit taken → Makes room whole made exit taken
       put e v =
           put_there set g one other insides.0 insides.1 u m stepped.is
           (next set g one other insides.0 insides.1 u e) v
 
-      pub filled : {taken : ℕ} → answer ≡ Full taken → Tells room whole (Full taken) room'
+      pub filled : {refusal : Refusal} → answer ≡ Err refusal → Makes room whole (Err refusal) room' places'
       filled e = full_there set g one other insides.0 insides.1 u m stepped.is e

@@ -1,11 +1,10 @@
 -- What is told of making, with the places then taken, as one value: the laws of rooms go by it, and a contract's `Makes` says the same.
 use Rattle.std.specs.Prelude.{ℕ, List, ◌≡◌, refl, length}
-use Rattle.std.proofs.Common.{arith, sym, ◌∙◌, ap, ap₂}
+use Rattle.std.proofs.Common.{arith, ◌∙◌, ap₂}
 use Rattle.std.specs.declared.result.Result.{Result}
 use Rattle.std.specs.declared.result.Result.TheVariants.{Ok, Err}
 use Rattle.refusals.specs.declared.refusal.Refusal.{Refusal}
 use Rattle.refusals.specs.declared.refusal.Refusal.TheVariants.{NoFreePlace}
-use Rattle.records.specs.declared.record.Record.{Record}
 use Rattle.store.specs.Room.{laid}
 use Rattle.store.specs.Making.{Making, placed, full, after}
 use Rattle.store.specs.Told.{making_answer, Makes}

@@ -1,16 +1,15 @@
 -- Hex digits in code: the half that a digit stands for, and the byte of two halves.
-use Rattle.std.specs.Prelude.{ℕ, ◌+◌, ◌-◌, ◌*◌, ◌/◌, ◌%◌, ◌<◌, ◌≤◌, ◌≡◌, refl}
+use Rattle.std.specs.Prelude.{ℕ, ◌+◌, ◌-◌, ◌*◌, ◌/◌, ◌%◌, ◌<◌, ◌≤◌, ◌≡◌, Some, None}
 use Rattle.std.proofs.Common.{arith, sym, ◌∙◌, ap}
-use Rattle.text.specs.declared.hex.Byte.TheVariants.{Is, Not}
 use Rattle.text.specs.Digits.{hex_digit}
 use Rattle.text.specs.Told.{HalfOf, half, no_half, ByteOf, a_byte, no_byte}
 use Rattle.text.specs.Laws.Hex.{low_digit, high_digit, WhichDigit, is_low, is_high, which_digit}
 
 -- `0` to `9`, and `a` to `f`.
-pub low_half : (c : ℕ) → 48 ≤ c → c ≤ 57 → HalfOf c (c - 48)
+pub low_half : (c : ℕ) → 48 ≤ c → c ≤ 57 → HalfOf c (Some (c - 48))
 low_half c l m = half {h = c - 48} (omega arith) (omega (arith, low_digit (c - 48) (omega arith)))
 
-pub high_half : (c : ℕ) → 97 ≤ c → c ≤ 102 → HalfOf c (c - 97 + 10)
+pub high_half : (c : ℕ) → 97 ≤ c → c ≤ 102 → HalfOf c (Some (c - 97 + 10))
 high_half c l m = half {h = c - 97 + 10} (omega arith) (omega (arith, high_digit (c - 97 + 10) (omega arith)))
 
 -- Every other number is no digit.
@@ -27,24 +26,22 @@ outside_by (between l m) (is_high p q) k e = omega arith
 outside_by (above l) (is_low p q) k e = omega arith
 outside_by (above l) (is_high p q) k e = omega arith
 
-pub outside_half : {c : ℕ} → Outside c → HalfOf c 16
+pub outside_half : {c : ℕ} → Outside c → HalfOf c None
 outside_half o = no_half (λ h. outside_by o (which_digit h))
 
--- What an answer says, 16 or not.
+-- What an answer says.
 pub record IsHalf (c h : ℕ) : Type 0 where
   pub small : h < 16
   pub digit : c ≡ hex_digit h
 
-pub is_half : {c h : ℕ} → HalfOf c h → (h ≡ 16 → ⊥) → IsHalf c h
-is_half (half l e) n = record { small = l; digit = e }
-is_half (no_half f) n = absurd (n refl)
+pub is_half : {c h : ℕ} → HalfOf c (Some h) → IsHalf c h
+is_half (half l e) = record { small = l; digit = e }
 
-is_no_half : {c h : ℕ} → HalfOf c h → h ≡ 16 → (k : ℕ) → k < 16 → c ≡ hex_digit k → ⊥
-is_no_half (half l e) n k = absurd (omega arith)
-is_no_half (no_half f) n k = f k
+is_no_half : {c : ℕ} → HalfOf c None → (k : ℕ) → k < 16 → c ≡ hex_digit k → ⊥
+is_no_half (no_half f) k = f k
 
 -- The byte of two halves, and none where one half is missing.
-pub both_halves : {high low h l : ℕ} → IsHalf high h → IsHalf low l → ByteOf high low (Is (16 * h + l))
+pub both_halves : {high low h l : ℕ} → IsHalf high h → IsHalf low l → ByteOf high low (Some (16 * h + l))
 both_halves {high} {low} {h} {l} p q =
     let s = p.small in
     let t = q.small in
@@ -57,8 +54,8 @@ both_halves {high} {low} {h} {l} p q =
       low_is = q.digit ∙ ap (λ (x : ℕ). hex_digit x) (sym v);
     })
 
-pub high_missing : {high h : ℕ} (low : ℕ) → HalfOf high h → h ≡ 16 → ByteOf high low Not
-high_missing low p e = no_byte (λ b t. let l = t.is_byte in is_no_half p e (b / 16) (omega arith) t.high_is)
+pub high_missing : {high : ℕ} (low : ℕ) → HalfOf high None → ByteOf high low None
+high_missing low p = no_byte (λ b t. let l = t.is_byte in is_no_half p (b / 16) (omega arith) t.high_is)
 
-pub low_missing : {low h : ℕ} (high : ℕ) → HalfOf low h → h ≡ 16 → ByteOf high low Not
-low_missing high p e = no_byte (λ b t. is_no_half p e (b % 16) (omega arith) t.low_is)
+pub low_missing : {low : ℕ} (high : ℕ) → HalfOf low None → ByteOf high low None
+low_missing high p = no_byte (λ b t. is_no_half p (b % 16) (omega arith) t.low_is)

@@ -1,12 +1,8 @@
 -- Lines with names have one reading each: so what stands behind a name, read up to its line feed, is the line, or there is none.
-use Rattle.std.specs.Prelude.{ℕ, ◌+◌, ◌*◌, ◌≤◌, Bool, true, false, List, [], ◌∷◌, ◌++◌, ◌≡◌, refl, ltb, length, take, drop}
-use Rattle.std.proofs.Common.{arith, sym, ◌∙◌, ap, ap₂, subst, drop_of_length-le, ltb-true, ltb-false}
+use Rattle.std.specs.Prelude.{ℕ, ◌+◌, ◌*◌, ◌≤◌, Bool, true, false, List, [], ◌∷◌, ◌++◌, ◌≡◌, refl, ltb, length, take, drop, Some, None}
+use Rattle.std.proofs.Common.{arith, sym, ◌∙◌, ap, drop_of_length-le, ltb-true, ltb-false}
 use Rattle.std.proofs.lemmas.List.{append_cancel_left}
 use Rattle.language.specs.Word.{Bytes}
-use Rattle.text.specs.declared.named.HexLine.{HexLine}
-use Rattle.text.specs.declared.named.HexLine.TheVariants.{Read as ReadHexLine, Bad as BadHexLine}
-use Rattle.text.specs.declared.named.NumberLine.{NumberLine}
-use Rattle.text.specs.declared.named.NumberLine.TheVariants.{Read as ReadNumberLine, Bad as BadNumberLine}
 use Rattle.text.specs.Ascii.{line_feed, line}
 use Rattle.text.specs.Digits.{hex, decimal}
 use Rattle.text.specs.Told.{NoNumber, NoDigits, ReadsHex, ReadsHexLine, reads_hex_line, reads_no_hex_line, ReadsNumberLine, reads_number_line, reads_no_number_line}
@@ -46,7 +42,7 @@ module _ {text : List ℕ} {from : ℕ} {name : List ℕ} {at : ℕ} (named : Pa
 
   -- Bytes in hex, and a line feed behind them; where there is none, or no digits, no line of hex stands there.
   pub a_hex_line : {count : ℕ} {room : List ℕ} {next : ℕ} → ReadsHex text at count room → PassedTo text (at + 2 * count) (line_feed ∷ []) next
-      → ReadsHexLine text from name (ReadHexLine count next) room
+      → ReadsHexLine text from name (Some count) next room
   a_hex_line {count} {room} h p = reads_hex_line p.inside h.in_room h.bytes (in_front (hex (take count room)) h.read p)
 
   no_more_digits : {count : ℕ} {room : List ℕ} → length text ≤ 2 * length room → ReadsHex text at count room → NoDigits (drop (at + 2 * count) text)
@@ -60,34 +56,34 @@ module _ {text : List ℕ} {from : ℕ} {name : List ℕ} {at : ℕ} (named : Pa
           rw (drop_of_length-le text m) no_digits_at_end
 
   pub no_hex_feed : {count : ℕ} {room : List ℕ} → length text ≤ 2 * length room → ReadsHex text at count room
-      → ((rest : List ℕ) → drop (at + 2 * count) text ≡ line_feed ∷ rest → ⊥) → ReadsHexLine text from name BadHexLine room
+      → ((rest : List ℕ) → drop (at + 2 * count) text ≡ line_feed ∷ rest → ⊥) → {to : ℕ} → ReadsHexLine text from name None to room
   no_hex_feed l h n =
       let m : NoHexLine (drop at text) = rw h.read (no_hex_behind h.bytes (no_hex_there n (no_more_digits l h))) in
       reads_no_hex_line (λ bytes rest b e. m.none_read bytes rest b (behind (hex bytes) rest e))
 
   -- A number, and a line feed behind it.
-  no_line : {most : ℕ} → NoNumberLine most (drop at text) → ReadsNumberLine text from name most BadNumberLine
+  no_line : {most to : ℕ} → NoNumberLine most (drop at text) → ReadsNumberLine text from name most None to
   no_line n = reads_no_number_line (λ m rest l e. n.none_read m rest l (behind (decimal m) rest e))
 
   pub a_number_line : {most n to next : ℕ} → NumberTo text at most n to → PassedTo text to (line_feed ∷ []) next
-      → ReadsNumberLine text from name most (ReadNumberLine n next)
+      → ReadsNumberLine text from name most (Some n) next
   a_number_line {n = n} h p = reads_number_line p.inside h.small (in_front (decimal n) h.read p)
 
-  pub no_number_feed : {most n to : ℕ} → NumberTo text at most n to → ((rest : List ℕ) → drop to text ≡ line_feed ∷ rest → ⊥)
-      → ReadsNumberLine text from name most BadNumberLine
+  pub no_number_feed : {most n to last : ℕ} → NumberTo text at most n to → ((rest : List ℕ) → drop to text ≡ line_feed ∷ rest → ⊥)
+      → ReadsNumberLine text from name most None last
   no_number_feed {n = n} h f =
       no_line
       (record { none_read = λ m rest l e. f rest (decimal_run_one n m h.stops (feed_stops rest) (sym h.read ∙ e)).rest })
 
-  pub no_number_line : {most : ℕ} → NoNumber most (drop at text) → ReadsNumberLine text from name most BadNumberLine
+  pub no_number_line : {most to : ℕ} → NoNumber most (drop at text) → ReadsNumberLine text from name most None to
   no_number_line n = no_line (record { none_read = λ m rest l e. n.none_read m (line_feed ∷ rest) l (feed_stops rest) e })
 
 -- The name does not stand there.
 module _ {text : List ℕ} {from : ℕ} {name : List ℕ} (n : (rest : List ℕ) → drop from text ≡ name ++ rest → ⊥) where
-  pub no_hex_name : {room : List ℕ} → ReadsHexLine text from name BadHexLine room
+  pub no_hex_name : {to : ℕ} {room : List ℕ} → ReadsHexLine text from name None to room
   no_hex_name = reads_no_hex_line (λ bytes rest b e. n (hex bytes ++ line_feed ∷ rest) (e ∙ line_then name (hex bytes) rest))
 
-  pub no_number_name : {most : ℕ} → ReadsNumberLine text from name most BadNumberLine
+  pub no_number_name : {most to : ℕ} → ReadsNumberLine text from name most None to
   no_number_name = reads_no_number_line (λ k rest l e. n (decimal k ++ line_feed ∷ rest) (e ∙ line_then name (decimal k) rest))
 
 -- A line is read, up to the next: what can stand behind it is what does.
@@ -103,36 +99,19 @@ pub record NumberIs (text : List ℕ) (from : ℕ) (name : List ℕ) (most n to 
   pub read : drop from text ≡ line name (decimal n) ++ drop to text
 
 module _ {text : List ℕ} {from : ℕ} {name : List ℕ} where
-  pub hex_is : {h : HexLine} {room : List ℕ} {count to : ℕ} → ReadsHexLine text from name h room → h ≡ ReadHexLine count to
-      → HexIs text from name room count to
-  hex_is {room = room} {count} {to} (reads_hex_line {count = k} {to = t} l m b r) e =
-      let f : k ≡ count = cc in
-      let g : t ≡ to = cc in
-      record {
-        inside = omega arith;
-        in_room = subst (λ (x : ℕ). x ≤ length room) f m;
-        bytes = subst (λ (x : ℕ). Bytes (take x room)) f b;
-        read = r ∙ ap₂ (λ (x y : ℕ). line name (hex (take x room)) ++ drop y text) f g;
-      }
-  hex_is (reads_no_hex_line f) e = let z : ◌≡◌ {A = ℕ} 0 1 = cc in absurd (omega arith)
+  pub hex_is : {room : List ℕ} {count to : ℕ} → ReadsHexLine text from name (Some count) to room → HexIs text from name room count to
+  hex_is (reads_hex_line l m b r) = record { inside = l; in_room = m; bytes = b; read = r }
 
-  pub hex_is_not : {h : HexLine} {room : List ℕ} → ReadsHexLine text from name h room → h ≡ BadHexLine → (bytes rest : List ℕ) → Bytes bytes
+  pub hex_is_not : {room : List ℕ} {to : ℕ} → ReadsHexLine text from name None to room → (bytes rest : List ℕ) → Bytes bytes
       → drop from text ≡ line name (hex bytes) ++ rest → ⊥
-  hex_is_not (reads_hex_line l m b r) e = let z : ◌≡◌ {A = ℕ} 0 1 = cc in absurd (omega arith)
-  hex_is_not (reads_no_hex_line f) e = f
+  hex_is_not (reads_no_hex_line f) = f
 
-  pub number_is : {most : ℕ} {h : NumberLine} {n to : ℕ} → ReadsNumberLine text from name most h → h ≡ ReadNumberLine n to
-      → NumberIs text from name most n to
-  number_is {n = n} {to} (reads_number_line {n = k} {to = t} l m r) e =
-      let f : k ≡ n = cc in
-      let g : t ≡ to = cc in
-      record { inside = omega arith; small = omega arith; read = r ∙ ap₂ (λ (x y : ℕ). line name (decimal x) ++ drop y text) f g }
-  number_is (reads_no_number_line f) e = let z : ◌≡◌ {A = ℕ} 0 1 = cc in absurd (omega arith)
+  pub number_is : {most n to : ℕ} → ReadsNumberLine text from name most (Some n) to → NumberIs text from name most n to
+  number_is (reads_number_line l m r) = record { inside = l; small = m; read = r }
 
-  pub number_is_not : {most : ℕ} {h : NumberLine} → ReadsNumberLine text from name most h → h ≡ BadNumberLine → (n : ℕ) (rest : List ℕ) → n ≤ most
+  pub number_is_not : {most to : ℕ} → ReadsNumberLine text from name most None to → (n : ℕ) (rest : List ℕ) → n ≤ most
       → drop from text ≡ line name (decimal n) ++ rest → ⊥
-  number_is_not (reads_number_line l m r) e = let z : ◌≡◌ {A = ℕ} 0 1 = cc in absurd (omega arith)
-  number_is_not (reads_no_number_line f) e = f
+  number_is_not (reads_no_number_line f) = f
 
   pub hex_behind : {room : List ℕ} {count to : ℕ} → HexIs text from name room count to → (bytes rest : List ℕ) → Bytes bytes
       → drop from text ≡ line name (hex bytes) ++ rest → drop to text ≡ rest

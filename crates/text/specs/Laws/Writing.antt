@@ -115,6 +115,12 @@ all_hex_put {out₀} {at} {bytes} {out} {to} {i} p l =
       rest = p.rest;
     }
 
+-- The digits of one byte more.
+pub hex_next : (bytes : List ℕ) (i : ℕ) → i < length bytes
+    → hex (take i bytes) ++ hex_digit (get_or bytes i 0 / 16) ∷ hex_digit (get_or bytes i 0 % 16) ∷ [] ≡ hex (take (i + 1) bytes)
+unfolding hex
+hex_next bytes i l = sym (ap hex (first_more bytes i l) ∙ hex_append (take i bytes) (get_or bytes i 0 ∷ []))
+
 -- Nothing is put; one number behind what is put; one piece behind the other.
 pub put_nothing : (out : List ℕ) (at : ℕ) → Puts out at [] at out
 put_nothing out at = record { ends = omega arith; stands = sym (append-nil (take at out)); rest = refl }
@@ -139,6 +145,16 @@ put_both {out} {at} {first} {to} {out'} {second} {to'} p q =
       stands = q.stands ∙ ap (λ (s : List ℕ). s ++ second) p.stands ∙ append_assoc (take at out) first second;
       rest = q.rest ∙ same_later to to' out' out (omega arith) p.rest;
     }
+
+-- One digit of a number, and one digit more.
+pub digit_put : {out : List ℕ} {at n to : ℕ} {out' : List ℕ} → n < 10 → Puts out at ((48 + n % 10) ∷ []) to out' → Puts out at (decimal n) to out'
+digit_put {out} {at} {n} {to} {out'} l p =
+    let e : 48 + n % 10 ≡ 48 + n = omega arith in
+    subst (λ (s : List ℕ). Puts out at s to out') (ap (λ (c : ℕ). c ∷ []) e ∙ sym (decimal_small n l)) p
+
+pub digit_behind : {out : List ℕ} {at n mid : ℕ} {out' : List ℕ} {to : ℕ} {out'' : List ℕ} → 10 ≤ n → Puts out at (decimal (n / 10)) mid out'
+    → Puts out' mid ((48 + n % 10) ∷ []) to out'' → Puts out at (decimal n) to out''
+digit_behind {out} {at} {n} {to = to} {out''} l p q = subst (λ (s : List ℕ). Puts out at s to out'') (sym (decimal_split n l)) (put_both p q)
 
 -- A number of one digit, and of more.
 pub small_put : (out : List ℕ) (at n : ℕ) → n < 10 → at + length (decimal n) ≤ length out → Puts out at (decimal n) (at + 1) (set out at (48 + n))

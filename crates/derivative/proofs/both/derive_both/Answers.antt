@@ -1,30 +1,41 @@
 -- `derive_both` derives the left place, and then the right one in the store that stands in the room by then, which is good again.
-use native.Mathlib.Omega.{arith}
-use Rattle.derivative.proofs.Laws.Both.{at_depth, first_stopped, second_ready, then_second}
+use mathlib.Core.Path.{refl}
+use Rattle.std.specs.declared.result.Result.TheVariants.{Ok, Err}
+use Rattle.std.proofs.lemmas.Result.{err_from_is_err_and}
+use Rattle.derivative.proofs.Laws.Told.{comes_room, room_both_come}
+use Rattle.derivative.proofs.Laws.Both.{at_depth, first_stopped, then_second, right_at, right_stopped}
 use Rattle.derivative.proofs.both.derive_both.Goals as goal
 
-pub derive_right-requires : goal.derive_right-requires
-derive_right-requires c =
-    let s = c in
-    let a = s.args in
-    let told = second_ready s.requires.good_store a.letter (omega arith) a.x a.y s.requires.x_lt_places a.budget
-    (at_depth a.room.now a.places a.x a.letter a.budget c.derive-first.ensures)
-    c.in-At.is in
-    record { good_store = told.0; y_lt_places = told.1 }
+pub returns-in_err-next_x-clause-comes : goal.returns-in_err-next_x-clause-comes
+returns-in_err-next_x-clause-comes c =
+    let a = c.args in
+    let w = a.work.now in
+    let told = err_from_is_err_and c.from_residual.result c.from_residual.ensures.1 in
+    rw (told.1, told.2)
+    (room_both_come _ (Err c.in_err-next_x.field-0.0)
+    (first_stopped w.good a.letter c.ranges.letter.fits a.x a.y c.requires w.budget
+    (at_depth w.room.now w.places a.x a.letter w.budget (λ d l. comes_room (c.in_err-next_x.ensures.comes d l))) refl))
 
-pub returns-in-At : goal.returns-in-At
-returns-in-At c =
-    let s = c in
-    let a = s.args in
-    then_second s.requires.good_store a.letter (omega arith) a.x a.y s.requires.x_lt_places a.budget
-    (at_depth a.room.now a.places a.x a.letter a.budget c.derive-first.ensures)
-    c.in-At.is
-    c.derive_right.ensures
+pub returns-in_err-next_y-clause-comes : goal.returns-in_err-next_y-clause-comes
+returns-in_err-next_y-clause-comes c =
+    let a = c.args in
+    let w = a.work.now in
+    let w₁ = c.derive.new.work in
+    let told = err_from_is_err_and c.from_residual-in_err-next_y.result c.from_residual-in_err-next_y.ensures.1 in
+    rw (told.1, told.2)
+    (room_both_come _ (Err c.in_err-next_y.field-0.0)
+    (then_second w.good a.letter c.ranges.letter.fits a.x a.y c.requires w.budget
+    (at_depth w.room.now w.places a.x a.letter w.budget (λ d l. comes_room (c.in_ok-next_x.ensures.comes d l))) refl
+    (right_stopped
+    (at_depth w₁.room.now w₁.places a.y a.letter w₁.budget (λ d l. comes_room (c.in_err-next_y.ensures.comes d l))) c.in_ok-next_x.next_x refl)))
 
-pub returns-in-Stopped : goal.returns-in-Stopped
-returns-in-Stopped c =
-    let s = c in
-    let a = s.args in
-    first_stopped s.requires.good_store a.letter (omega arith) a.x a.y s.requires.x_lt_places a.budget
-    (at_depth a.room.now a.places a.x a.letter a.budget c.derive-first.ensures)
-    c.in-Stopped.is
+pub returns-clause-comes : goal.returns-clause-comes
+returns-clause-comes c =
+    let a = c.args in
+    let w = a.work.now in
+    let w₁ = c.derive.new.work in
+    room_both_come _ (Ok (c.in_ok-next_x.next_x, c.in_ok-next_y.next_y))
+    (then_second w.good a.letter c.ranges.letter.fits a.x a.y c.requires w.budget
+    (at_depth w.room.now w.places a.x a.letter w.budget (λ d l. comes_room (c.in_ok-next_x.ensures.comes d l))) refl
+    (right_at
+    (at_depth w₁.room.now w₁.places a.y a.letter w₁.budget (λ d l. comes_room (c.in_ok-next_y.ensures.comes d l))) c.in_ok-next_x.next_x refl))

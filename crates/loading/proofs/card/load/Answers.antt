@@ -1,96 +1,96 @@
 -- `load` answers as the definition does: with the records before `at` loaded, the store that stands in the room and the places that
--- begin the map are those from which the definition loads the rest. The measure is the number of records that are left.
+-- begin the map are those from which the definition loads the rest; where no place is free, the loading stops with the same store.
 use native.Mathlib.Omega.{arith}
-use mathlib.Core.Path.{◌∙◌}
-use Rattle.loading.proofs.Laws.LoadingRoom.{at_first, room_as_long, at_last, left_mapped, right_mapped, can_be_made, place_fits, when_full, when_placed}
+use Rattle.std.specs.Prelude.{refl}
+use Rattle.std.proofs.lemmas.Result.{err_from_is_err_and}
+use Rattle.loading.proofs.Laws.Told.{told_loads, told_not_loaded}
+use Rattle.loading.proofs.Laws.LoadingRoom.{at_first, at_last, left_mapped, right_mapped, children_taken, good_made, place_fits, when_full, when_placed}
 use Rattle.loading.proofs.card.load.Goals as goal
 
 pub loop-at-init : goal.loop-at-init
-loop-at-init c =
-    let s = c in
-    at_first s.args.room.now s.args.places s.args.card.now s.args.map.now s.requires.good_store s.requires.loadable
-    (λ i. (c.shared_slice_known-1.given i).fits)
+loop-at-init c = (
+  at_first c.args.work.now.room.now c.args.work.now.places c.args.card.now c.args.map.now c.args.work.now.good c.requires
+      (λ i. (c.shared_slice_known-1.given i).fits),
+  (refl, refl),
+)
 
 pub child_place-left-requires : goal.child_place-left-requires
-child_place-left-requires c =
-    let r = c in
-    left_mapped r.loop-at.invariant r.loop-at-test.true r.read-r.ensures
+child_place-left-requires c = left_mapped c.loop-at.invariant.0 c.loop-at-test.true c.read-r.ensures
 
 pub child_place-right-requires : goal.child_place-right-requires
-child_place-right-requires c =
-    let r = c in
-    right_mapped r.loop-at.invariant r.loop-at-test.true r.read-r.ensures
+child_place-right-requires c = right_mapped c.loop-at.invariant.0 c.loop-at-test.true c.read-r.ensures
 
-pub make-made-requires : goal.make-made-requires
-make-made-requires c =
-    let m = c in
-    let r = m in
-    let told = can_be_made r.loop-at.invariant r.loop-at-test.true r.read-r.ensures
-    m.named.ensures
-    m.columns_of-line.ensures
-    m.child_place-left.ensures
-    m.child_place-right.ensures in
-    record { good_store = told.0; left_lt_places = told.1 }
+pub make-requires-clause-children_stand : goal.make-requires-clause-children_stand
+make-requires-clause-children_stand c =
+    children_taken c.loop-at.invariant.0 c.loop-at-test.true c.read-r.ensures
+    c.from.ensures
+    c.columns_of-line.ensures
+    c.child_place-left.ensures
+    c.child_place-right.ensures
+
+pub invariant_of-work : goal.invariant_of-work
+invariant_of-work c =
+    record {
+      good = good_made c.loop-at.invariant.0 c.loop-at-test.true c.read-r.ensures
+          c.from.ensures
+          c.columns_of-line.ensures
+          c.child_place-left.ensures
+          c.child_place-right.ensures
+          c.make.ensures;
+    }
+
+pub returns-in_err-place-clause-loads : goal.returns-in_err-place-clause-loads
+returns-in_err-place-clause-loads c =
+    let told = err_from_is_err_and c.from_residual.result c.from_residual.ensures.1 in
+    let full = when_full c.loop-at.invariant.0 c.loop-at-test.true c.read-r.ensures
+    c.from.ensures
+    c.columns_of-line.ensures
+    c.child_place-left.ensures
+    c.child_place-right.ensures
+    c.make.ensures
+    c.in_err-place.was in
+    rw (told.1, told.2, full.0) (told_not_loaded _ full.1.0 full.1.1.0 c.loop-at.invariant.1.1)
+
+pub returns-in_err-place-clause-mapped : goal.returns-in_err-place-clause-mapped
+returns-in_err-place-clause-mapped c =
+    let full = when_full c.loop-at.invariant.0 c.loop-at-test.true c.read-r.ensures
+    c.from.ensures
+    c.columns_of-line.ensures
+    c.child_place-left.ensures
+    c.child_place-right.ensures
+    c.make.ensures
+    c.in_err-place.was in
+    full.1.1.1
 
 pub overflow_cast-map : goal.overflow_cast-map
 overflow_cast-map c =
-    let m = c in
-    let r = m in
     record {
-      fits = place_fits r.loop-at.invariant r.loop-at-test.true r.read-r.ensures
-          m.named.ensures
-          m.columns_of-line.ensures
-          m.child_place-left.ensures
-          m.child_place-right.ensures
-          c.make-made.ensures.value
-          c.in-Placed.is;
+      fits = place_fits c.loop-at.invariant.0 c.loop-at-test.true c.read-r.ensures
+          c.from.ensures
+          c.columns_of-line.ensures
+          c.child_place-left.ensures
+          c.child_place-right.ensures
+          c.make.ensures
+          c.in_ok-place.was;
     }
-
-pub offset_bounds-map-at : goal.offset_bounds-map-at
-offset_bounds-map-at c = omega (arith, c.well_formed)
-
-pub shape_of-room-in-Full : goal.shape_of-room-in-Full
-shape_of-room-in-Full c =
-    let l = c.loop-at in
-    c.room-1.given ∙ room_as_long l.invariant
-
-pub returns-in-Full : goal.returns-in-Full
-returns-in-Full c =
-    let m = c in
-    let r = m in
-    let told = when_full r.loop-at.invariant r.loop-at-test.true r.read-r.ensures
-    m.named.ensures
-    m.columns_of-line.ensures
-    m.child_place-left.ensures
-    m.child_place-right.ensures
-    c.make-made.ensures.value
-    c.make-made.ensures.room_after
-    c.in-Full.is in
-    record { value = told.0; room_after = told.1.0; mapped = told.1.1 }
-
-pub overflow_add-at : goal.overflow_add-at
-overflow_add-at c = omega (arith, c.well_formed)
 
 pub loop-at-preserved : goal.loop-at-preserved
 loop-at-preserved c =
-    let m = c in
-    let r = m in
-    when_placed r.loop-at.invariant r.loop-at-test.true r.read-r.ensures
-    m.named.ensures
-    m.columns_of-line.ensures
-    m.child_place-left.ensures
-    m.child_place-right.ensures
-    c.make-made.ensures.value
-    c.make-made.ensures.room_after
-    c.in-Placed.is
+    let next = when_placed c.loop-at.invariant.0 c.loop-at-test.true c.read-r.ensures
+    c.from.ensures
+    c.columns_of-line.ensures
+    c.child_place-left.ensures
+    c.child_place-right.ensures
+    c.make.ensures
+    c.in_ok-place.was in
+    (next, c.loop-at.invariant.1)
 
-pub shape_of-room : goal.shape_of-room
-shape_of-room c = room_as_long c.loop-at.invariant
+pub returns-clause-loads : goal.returns-clause-loads
+returns-clause-loads c =
+    let told = at_last c.loop-at.invariant.0 (omega arith) in
+    told_loads _ told.0 told.1.0 c.loop-at.invariant.1.1
 
-pub shape_of-map : goal.shape_of-map
-shape_of-map c = c.loop-at.invariant.as_long
-
-pub returns : goal.returns
-returns c =
-    let told = at_last c.loop-at.invariant (omega arith) in
-    record { value = told.0; room_after = told.1.0; mapped = told.1.1 }
+pub returns-clause-mapped : goal.returns-clause-mapped
+returns-clause-mapped c =
+    let told = at_last c.loop-at.invariant.0 (omega arith) in
+    told.1.1

@@ -1,56 +1,35 @@
 -- `enter` loads the card and answers the place of its last record, which is the root: a card in good standing can be loaded, and the map
 -- begins with the place of each of its records.
-use native.Mathlib.Omega.{arith}
-use mathlib.Core.Path.{refl}
+use Rattle.std.specs.Prelude.{refl}
 use Rattle.language.proofs.Laws.Words.{bytes_all}
-use Rattle.loading.proofs.Laws.Entering.{loadable, some_last, last_mapped, root_fits, entered_at, entered_full}
+use Rattle.loading.proofs.Laws.Entering.{loadable, some_last, last_mapped, root_stands, entered_at, entered_grows}
 use Rattle.loading.proofs.entering.enter.Goals as goal
 
-pub load-loaded-requires : goal.load-loaded-requires
-load-loaded-requires c =
-    let s = c in
-    record { good_store = s.requires.good_store; loadable = loadable s.args.card.now _ s.requires.card_value refl }
+pub load-requires : goal.load-requires
+load-requires c = loadable c.args.card.now _ c.requires refl
 
-pub overflow_sub-last : goal.overflow_sub-last
-overflow_sub-last c = let s = c in some_last s.args.card.now s.requires.card_value
+pub returns-in_err-load-clause-grows : goal.returns-in_err-load-clause-grows
+returns-in_err-load-clause-grows c =
+    entered_grows c.args.work.now c.args.card.now (bytes_all c.args.card.now (λ i. (c.shared_slice_known-1.given i).fits)) c.requires
+    c.load.ensures.loads
 
-pub bounds-map-last : goal.bounds-map-last
-bounds-map-last c = let s = c in last_mapped s.args.card.now s.requires.card_value
+pub overflow_sub-result : goal.overflow_sub-result
+overflow_sub-result c = some_last c.args.card.now c.requires
 
-pub overflow_cast-result : goal.overflow_cast-result
-overflow_cast-result c =
-    let small =
-    let l = c in
-    let s = l in
-    root_fits s.requires.good_store s.args.card.now
-    (bytes_all s.args.card.now (λ i. (l.shared_slice_known-1.given i).fits))
-    s.requires.card_value
-    l.load-loaded.new.map
-    l.load-loaded.ensures.value
-    (l.load-loaded.ensures.room_after, l.load-loaded.ensures.mapped)
-    c.in-All.is in
-    record { fits = omega arith }
+pub bounds-map-card : goal.bounds-map-card
+bounds-map-card c = last_mapped c.args.card.now c.requires
 
-pub returns-in-All : goal.returns-in-All
-returns-in-All c =
-    let l = c in
-    let s = l in
-    entered_at s.requires.good_store s.args.card.now
-    (bytes_all s.args.card.now (λ i. (l.shared_slice_known-1.given i).fits))
-    s.requires.card_value
-    l.load-loaded.new.map
-    l.load-loaded.ensures.value
-    (l.load-loaded.ensures.room_after, l.load-loaded.ensures.mapped)
-    c.in-All.is
+pub returns-clause-enters : goal.returns-clause-enters
+returns-clause-enters c =
+    entered_at c.args.work.now c.args.card.now (bytes_all c.args.card.now (λ i. (c.shared_slice_known-1.given i).fits)) c.requires
+    c.load.ensures.loads c.load.new.map c.load.ensures.mapped c.in_ok-load.was
 
-pub returns-in-Full : goal.returns-in-Full
-returns-in-Full c =
-    let l = c in
-    let s = l in
-    entered_full s.requires.good_store s.args.card.now
-    (bytes_all s.args.card.now (λ i. (l.shared_slice_known-1.given i).fits))
-    s.requires.card_value
-    l.load-loaded.new.map
-    l.load-loaded.ensures.value
-    (l.load-loaded.ensures.room_after, l.load-loaded.ensures.mapped)
-    c.in-Full.is
+pub returns-clause-inside : goal.returns-clause-inside
+returns-clause-inside c =
+    root_stands c.args.work.now c.args.card.now (bytes_all c.args.card.now (λ i. (c.shared_slice_known-1.given i).fits)) c.requires
+    c.load.ensures.loads c.load.new.map c.load.ensures.mapped c.in_ok-load.was
+
+pub returns-clause-grows : goal.returns-clause-grows
+returns-clause-grows c =
+    entered_grows c.args.work.now c.args.card.now (bytes_all c.args.card.now (λ i. (c.shared_slice_known-1.given i).fits)) c.requires
+    c.load.ensures.loads

@@ -1,7 +1,7 @@
 -- `fresh` lays the two records one behind the other at the start of the room, which is the fresh store laid in it.
 use Prim.Native.Nat.{ℕ, ◌-◌}
 use mathlib.Core.List.{List, ◌++◌}
-use mathlib.Core.Path.{◌≡◌, refl, ◌∙◌}
+use mathlib.Core.Path.{◌≡◌, ◌∙◌}
 use lib.ListN.{length, take, drop}
 use lib.Seq.{drop-drop}
 use Rattle.records.specs.Record.{bytes_of, run_of}
@@ -16,10 +16,5 @@ as-laid : (room : List ℕ) {first part : List ℕ} → first ≡ bytes_of nothi
 unfolding run_of
 as-laid room {first} e f = put_in_part 8 first (bytes_of empty_word_record) f ∙ rw (e, drop-drop 8 8 room)
 
-pub returns : goal.returns
-returns c = record {
-  value = refl;
-  room_after = as-laid c.args.room.now
-      c.lay.ensures
-      c.lay-2.ensures;
-}
+pub returns-clause-room_after : goal.returns-clause-room_after
+returns-clause-room_after c = as-laid c.args.room.now c.lay.ensures c.lay-2.ensures

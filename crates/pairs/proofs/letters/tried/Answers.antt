@@ -1,5 +1,5 @@
 -- `tried` looks at each letter in turn and writes those that a card mentions: at each step the letters written are the mentioned ones
--- below the one looked at. The measure is the number of letters that are left.
+-- below the one looked at.
 use native.Mathlib.Omega.{arith}
 use mathlib.Core.Path.{sym, ◌∙◌}
 use Rattle.pairs.specs.Laws.Tried.{none_written, room_for_one, one_written, one_passed, all_written}
@@ -34,4 +34,4 @@ pub returns : goal.returns
 returns c =
     let a = c.args in
     let told = all_written a.left.now a.right.now c.loop-at.invariant (omega arith) in
-    record { value = told.0; letters_after = told.1 }
+    told.1

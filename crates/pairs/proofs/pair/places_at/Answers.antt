@@ -3,7 +3,7 @@ use Prim.Native.Nat.{ℕ, ◌+◌, ◌*◌}
 use native.Mathlib.Nat.{add-zero}
 use native.Mathlib.Omega.{arith}
 use mathlib.Core.List.{List}
-use mathlib.Core.Path.{◌≡◌, ◌∙◌}
+use mathlib.Core.Path.{◌≡◌}
 use lib.ListN.{get_or, drop}
 use lib.Seq.{get_or-drop}
 use Rattle.pairs.specs.Pair.{pair_of, places_of_pair}
@@ -17,4 +17,4 @@ as-places s n = simp (get_or-drop, add-zero) (omega arith)
 pub returns : goal.returns
 returns c =
     let a = c.args in
-    c.four.ensures ∙ as-places a.run.now (8 * a.at)
+    omega (arith, c.from_le_bytes.ensures, as-places a.run.now (8 * a.at))

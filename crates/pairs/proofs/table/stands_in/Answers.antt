@@ -1,5 +1,5 @@
 -- `stands_in` compares the two places of each pair as one number, which tells places apart: a pair with the number wanted stands in the
--- table, and where no pair passed has it none does. The measure is the number of pairs that are left.
+-- table, and where no pair passed has it none does.
 use Prim.Native.Nat.{ℕ, ◌+◌, ◌*◌, ◌<◌}
 use native.Mathlib.Omega.{arith}
 use mathlib.Core.Bool.{Bool, true, false}
@@ -48,7 +48,7 @@ module _ (room : List ℕ) (pairs left right : ℕ) where
       go false e = sym e
 
 pub loop-at-init : goal.loop-at-init
-loop-at-init c = (omega arith, λ k l. absurd (omega arith))
+loop-at-init c = λ k l. absurd (omega arith)
 
 pub returns-then-places_at-wanted : goal.returns-then-places_at-wanted
 returns-then-places_at-wanted c =
@@ -64,11 +64,11 @@ returns-then-places_at-wanted c =
 pub loop-at-preserved : goal.loop-at-preserved
 loop-at-preserved c =
     let l = c.loop-at in
-    (omega arith, below_more _ l.at l.invariant.1 (λ e. c.if-places_at-wanted.false (c.places_at.ensures ∙ e)))
+    below_more _ l.at l.invariant (λ e. c.if-places_at-wanted.false (c.places_at.ensures ∙ e))
 
 pub returns : goal.returns
 returns c =
     let a = c.args in
     let l = c.loop-at in
     told-false a.room.now a.pairs a.left a.right
-    (λ k m e. l.invariant.1 k (omega arith) (e ∙ sym c.both-wanted.ensures))
+    (λ k m e. l.invariant k (omega arith) (e ∙ sym c.both-wanted.ensures))

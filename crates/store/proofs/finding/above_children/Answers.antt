@@ -1,6 +1,8 @@
 -- The first place at which the record obeys the kind table: the higher of the first places for its left and for its right field.
 use Prim.Native.Nat.{ℕ, ◌≤◌}
 use mathlib.Core.Path.{◌≡◌, sym, ◌∙◌, ap, subst}
+use Rattle.std.specs.Prelude.{max}
+use Rattle.std.proofs.Math.Nat.{le-max_left, le-max_right, max-le}
 use Rattle.records.specs.declared.kind.Kind.{Kind}
 use Rattle.records.specs.declared.kind.Columns.{Columns}
 use Rattle.records.specs.declared.record.Record.{Record}
@@ -12,7 +14,7 @@ use Rattle.store.proofs.finding.above_children.Goals as goal
 module _ (r : Record) {k : Kind} (is : k ≡ kind_of r.kind) {line : Columns} (has : line ≡ columns k)
     {left right n : ℕ} (left_first : (k : ℕ) → ChildField line.left k r.left → (left ≤ k) × ChildField line.left left r.left)
     (right_first : (k : ℕ) → ChildField line.right k r.right → (right ≤ k) × ChildField line.right right r.right)
-    (higher : (left ≤ n) × (right ≤ n) × ((k : ℕ) → left ≤ k → right ≤ k → n ≤ k)) where
+    (higher : n ≡ max left right) where
   line-is : line ≡ columns (kind_of r.kind)
   line-is = has ∙ ap columns is
 
@@ -20,8 +22,10 @@ module _ (r : Record) {k : Kind} (is : k ≡ kind_of r.kind) {line : Columns} (h
   first at o =
       let l = subst (λ (c : Columns). LineOf c at r) (sym line-is) o.line in
       let a = left_first at l.left in
-      let b = right_first at l.right in (
-        higher.2 at a.0 b.0,
+      let b = right_first at l.right in
+      let left_below : left ≤ n = rw higher (le-max_left left right) in
+      let right_below : right ≤ n = rw higher (le-max_right left right) in (
+        rw higher (max-le a.0 b.0),
         record {
           fourth = o.fourth;
           line =
@@ -29,8 +33,8 @@ module _ (r : Record) {k : Kind} (is : k ≡ kind_of r.kind) {line : Columns} (h
               (record {
                 known = l.known;
                 letter = l.letter;
-                left = field_higher line.left left n r.left higher.0 a.1;
-                right = field_higher line.right right n r.right higher.1 b.1;
+                left = field_higher line.left left n r.left left_below a.1;
+                right = field_higher line.right right n r.right right_below b.1;
               });
         },
       )
@@ -38,8 +42,8 @@ module _ (r : Record) {k : Kind} (is : k ≡ kind_of r.kind) {line : Columns} (h
 pub returns : goal.returns
 returns c =
     first c.args.r
-    c.named.ensures
+    c.from.ensures
     c.columns_of-line.ensures
     c.above_child.ensures
     c.above_child-2.ensures
-    c.higher.ensures
+    c.max.ensures

@@ -1,6 +1,6 @@
 -- `find` compares records by their numbers, which tell records apart: no record passed has the number wanted, so what the definition
 -- says of the whole store is what it says of the records from `at` on. The records below the place where looking begins are passed at once: the
--- store is good, so each obeys the kind table at its place, which the record wanted would not. The measure is the number of records that are left.
+-- store is good, so each obeys the kind table at its place, which the record wanted would not.
 use Prim.Native.Nat.{ℕ, zero, suc, ◌*◌, ◌<◌, ◌≤◌}
 use native.Mathlib.Omega.{arith}
 use mathlib.Core.Bool.{Bool, true, false, ◌&&◌, false≢true}

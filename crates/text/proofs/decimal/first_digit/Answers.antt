@@ -1,20 +1,19 @@
--- `first_digit` tells digits from the numbers below and above them, and refuses one that is too large.
+-- `first_digit` refuses what is no digit, and a digit that is too large.
 use native.Mathlib.Omega.{arith}
-use Rattle.text.specs.Laws.Growing.{first_of_number, first_too_large, no_first_digit}
+use Rattle.text.specs.Laws.Growing.{is_digit_of, is_no_digit, first_of_number, first_too_large, no_first_digit}
 use Rattle.text.proofs.decimal.first_digit.Goals as goal
 
-pub returns-then-digit-lt48 : goal.returns-then-digit-lt48
-returns-then-digit-lt48 c = let a = c.args in no_first_digit a.digit a.most (λ d. omega arith)
-
-pub returns-then-digit-gt57 : goal.returns-then-digit-gt57
-returns-then-digit-gt57 c = let a = c.args in no_first_digit a.digit a.most (λ d. omega arith)
+pub returns-in_err-value : goal.returns-in_err-value
+returns-in_err-value c = rw c.from_residual.ensures (no_first_digit c.args.digit c.args.most (is_no_digit c.in_err-value.ensures))
 
 pub returns-then-most-value : goal.returns-then-most-value
 returns-then-most-value c =
-    let a = c.args in
-    first_too_large a.digit a.most (record { least = omega arith; most = omega arith }) c.if-most-value.true
+    let d = is_digit_of c.in_ok-value.ensures in
+    let v = d.value in
+    first_too_large c.args.digit c.args.most d.digit (omega arith)
 
 pub returns : goal.returns
 returns c =
-    let a = c.args in
-    first_of_number a.digit a.most (record { least = omega arith; most = omega arith }) c.if-most-value.false
+    let d = is_digit_of c.in_ok-value.ensures in
+    let v = d.value in
+    rw v (first_of_number c.args.digit c.args.most d.digit (omega arith))
