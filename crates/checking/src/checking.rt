@@ -38,11 +38,7 @@ pub fn check_list(
 }
 
 // Every pair in list order.
-fn check_pairs(
-    work: &mut Work<'_>,
-    listed: Listed<'_>,
-    letters: &[u8],
-) -> Result<(), Failure>
+fn check_pairs(work: &mut Work<'_>, listed: Listed<'_>, letters: &[u8]) -> Result<(), Failure>
     requires { Inside listed.list.now listed.map.now work.old.places }
     ensures same_room { work.new.room.ghost_name ≡ work.old.room.ghost_name }
     ensures ends { Ends work.old (check_pairs (space_of work.old) letters.now (mapped_list listed.entry.map.now listed.entry.list.now) 0 (mapped_list listed.entry.map.now listed.entry.list.now) (store_of work.old) work.old.budget) result work.new }

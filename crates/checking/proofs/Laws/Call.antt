@@ -1,6 +1,6 @@
 -- The call `check` by its parts: refused at once it leaves the room as it is; else it opens the two pattern cards as the definition does, and what is
 -- told of the proof card and the list from there is told of the call.
-use Rattle.std.specs.Prelude.{ℕ, ◌-◌, ◌/◌, ◌<◌, false, List, ◌≡◌, length}
+use Rattle.std.specs.Prelude.{ℕ, ◌-◌, ◌/◌, false, List, ◌≡◌, length}
 use Rattle.std.proofs.Common.{arith, sym, ◌∙◌}
 use Rattle.std.proofs.Math.Path.{refl, ap}
 use Rattle.std.specs.declared.result.Result.{Result}
@@ -16,7 +16,6 @@ use Rattle.refusals.specs.declared.refusal.Refusal.{Refusal}
 use Rattle.refusals.specs.declared.refusal.Refusal.TheVariants.{NoFreePlace}
 use Rattle.refusals.specs.Number.{number}
 use Rattle.refusals.specs.Order.{Standing}
-use Rattle.refusals.specs.Order.{Good, Refused}
 use Rattle.refusals.specs.Told.{standing_told}
 use Rattle.records.specs.Record.{records, run_of}
 use Rattle.store.specs.declared.work.Work.{Work}
@@ -48,7 +47,6 @@ use Rattle.checking.proofs.Laws.ProofCard.{holds_store, held_leaves}
 -- Both pattern cards were opened: x and y are their roots' places.
 pub record CardsOpened (w : Work) (o : Opening) (x y : ℕ) (w₁ : Work) : Type 0 where
   pub is : o ≡ opened x y (store_of w₁)
-  pub inside : (x < w₁.places) × (y < w₁.places)
   pub leaves : Leaves w w₁
   pub unspent : w₁.budget ≡ w.budget
 
@@ -101,11 +99,8 @@ module _ {left right : List ℕ} (lefts : Bytes left) (rights : Bytes right) {w 
           let both : ◌≡◌ {A = ℕ × ℕ} (x, y) (x', y') = cc in
           let i : x ≡ x' = ap (λ (p : ℕ × ℕ). p.0) both in
           let j : y ≡ y' = ap (λ (p : ℕ × ℕ). p.1) both in
-          let a = h.left_inside in
-          let b = h.right_inside in
           record {
             is = rw (i, j, holds_store k.holds) refl;
-            inside = (omega (arith, k.holds.taken), omega (arith, k.holds.taken));
             leaves = held_leaves k.holds (from_fresh h.kept) k.unspent;
             unspent = k.unspent;
           }
@@ -171,16 +166,17 @@ module _ {left right proof list room : List ℕ} {budget : ℕ} {found : Result 
       pub still_legal : wrong_room (length w.room.now) ≡ false
       still_legal = rw as_long not_refused.room_legal
 
-      -- What is told of the cards is told of the call.
+      -- What is told of the cards is told of the call, whose room is the one worked in.
       pub call_told : w.budget ≡ budget → {answer : Result (Unit {0}) Failure} {w' : Work}
           → Tells w
           (check_opened (space_of w) (tried left right) (records proof) (listed_pairs list) w.budget (open_both (space_of w) (records left) (records right))) answer w'
-          → Checks left right proof list room budget (answer_of (verdict_told answer) w'.places (budget - w'.budget)) w'.room.now
-      call_told same {answer} {w'} t =
+          → {room' : List ℕ} → room' ≡ w'.room.now
+          → Checks left right proof list room budget (answer_of (verdict_told answer) w'.places (budget - w'.budget)) room'
+      call_told same {answer} {w'} t now =
           let cap : space_of w ≡ places_of room = ap (λ (n : ℕ). n / 8) as_long in
           let here = rw (cap, same) at t.is in
           let kept : Kept (places_of room) fresh_store (store_of w') = rw (cap, begun.fresh) at t.leaves.kept in
           promised
           (is_by (ap standing_told e) ∙ here ∙ outcome_told answer (store_of w') budget w'.budget)
           (rw (length_store_in w'.room.now w'.places) (tells_so (record { says = verdict_told answer; places = w'.places; visits = budget - w'.budget })))
-          (t.leaves.room_is ∙ ap (laid (store_of w')) room_is ∙ over_fresh room kept)
+          (now ∙ t.leaves.room_is ∙ ap (laid (store_of w')) room_is ∙ over_fresh room kept)

@@ -28,7 +28,7 @@ use Rattle.pairs.specs.declared.pair.Pair.{Pair}
 use Rattle.pairs.specs.Pair.{no_pair, pair_at, stands_in}
 use Rattle.checking.specs.declared.failing.Failure.{Failure}
 use Rattle.checking.specs.declared.failing.Failure.TheVariants.{OpeningMissing, MarksDiffer, NotListed, Refused}
-use Rattle.checking.specs.Check.{Checking, accepted, rejected, cut_off, Passing, passes, ends, check_letters, check_pairs, check_list}
+use Rattle.checking.specs.Check.{Checking, rejected, cut_off, Passing, passes, ends, check_letters, check_pairs, check_list}
 use Rattle.checking.specs.Listed.{Inside}
 use Rattle.checking.specs.Told.{check_pair, failure_told, passing_told, Leaves, Goes, Ends}
 use Rattle.checking.proofs.Laws.Turns.{marks_equal, by_listed, right_then, left_then, letters_then, marks_then, opening_listed, opening_unlisted}

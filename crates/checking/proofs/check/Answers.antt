@@ -1,52 +1,45 @@
 -- `check` comes to its outcome: refused at once it tells that; else it checks the cards as the definition does, and what is so told is true.
-use mathlib.Core.List.{List}
-use mathlib.Core.Path.{◌≡◌, sym, ◌∙◌}
-use lib.ListN.{length}
-use Rattle.std.proofs.Common.{◌<◌, get_or}
-use Prim.Native.Nat.{ℕ}
-use Rattle.std.specs.declared.result.Result.{Result}
-use Rattle.refusals.specs.declared.refusal.Refusal.{Refusal}
-use Rattle.refusals.specs.Told.{standing_told}
-use Rattle.checking.specs.Outcome.{check_standing}
+use Rattle.std.proofs.Common.{rules}
 use Rattle.language.proofs.Laws.Words.{bytes_all}
 use Rattle.checking.proofs.Laws.Call.{Lent, refused_at_once, not_refused, good_proof, can_open, still_legal, call_told}
 use Rattle.checking.proofs.check.Goals as goal
+use Rattle.checking.proofs.check.Goals.{After-standing}
 
 -- What is known once the refusals were asked.
-lent : {left right proof list room : List ℕ} {budget : ℕ} {found : Result (Unit {0}) Refusal} → ((i : ℕ) → get_or left i 0 < 256)
-    → ((i : ℕ) → get_or right i 0 < 256) → ((i : ℕ) → get_or proof i 0 < 256) → ((i : ℕ) → get_or list i 0 < 256)
-    → standing_told found ≡ check_standing left right proof list (length room) → Lent left right proof list room budget found
-lent {left} {right} {proof} {list} a b d e g =
-    record { lefts = bytes_all left a; rights = bytes_all right b; proofs = bytes_all proof d; lists = bytes_all list e; standing = g }
+lent : (c : After-standing) → Lent c.args.left.now c.args.right.now c.args.proof.now c.args.list.now c.args.room.now c.args.budget c.standing.result
+lent c =
+    record {
+      lefts = bytes_all c.args.left.now (λ i. (c.type_inv.left i).fits);
+      rights = bytes_all c.args.right.now (λ i. (c.type_inv.right i).fits);
+      proofs = bytes_all c.args.proof.now (λ i. (c.type_inv.proof i).fits);
+      lists = bytes_all c.args.list.now (λ i. (c.type_inv.list i).fits);
+      standing = c.standing.ensures;
+    }
 
 pub returns-in-Err : goal.returns-in-Err
 returns-in-Err c =
-    let k = lent {budget = c.args.budget} (λ i. (c.type_inv.left i).fits) (λ i. (c.type_inv.right i).fits) (λ i. (c.type_inv.proof i).fits) (λ i. (c.type_inv.list i).fits) c.standing.ensures in
-    rw c.number.ensures (refused_at_once k c.in-Err.is)
+    let number = c.number.ensures in
+    rw number (refused_at_once (lent (goal.at.returns-in-Err c).After-standing) c.in-Err.is)
 
 pub begin-work-requires : goal.begin-work-requires
-begin-work-requires c =
-    let k = lent {budget = c.args.budget} (λ i. (c.type_inv.left i).fits) (λ i. (c.type_inv.right i).fits) (λ i. (c.type_inv.proof i).fits) (λ i. (c.type_inv.list i).fits) c.standing.ensures in
-    (not_refused k c.in_default.is).room_legal
+begin-work-requires c = (not_refused (lent (goal.at.begin-work-requires c).After-standing) c.in_default.is).room_legal
 
 pub check_cards-checked-requires-clause-can_open : goal.check_cards-checked-requires-clause-can_open
 check_cards-checked-requires-clause-can_open c =
-    let k = lent {budget = c.args.budget} (λ i. (c.type_inv.left i).fits) (λ i. (c.type_inv.right i).fits) (λ i. (c.type_inv.proof i).fits) (λ i. (c.type_inv.list i).fits) c.standing.ensures in
-    can_open k c.in_default.is c.begin-work.ensures.begun c.begin-work.ensures.room_after
+    can_open (lent (goal.at.check_cards-checked-requires-clause-can_open c).After-standing) c.in_default.is c.begin-work.ensures.begun c.begin-work.ensures.room_after
 
 pub check_cards-checked-requires-clause-room_legal : goal.check_cards-checked-requires-clause-room_legal
 check_cards-checked-requires-clause-room_legal c =
-    let k = lent {budget = c.args.budget} (λ i. (c.type_inv.left i).fits) (λ i. (c.type_inv.right i).fits) (λ i. (c.type_inv.proof i).fits) (λ i. (c.type_inv.list i).fits) c.standing.ensures in
-    still_legal k c.in_default.is c.begin-work.ensures.begun c.begin-work.ensures.room_after
+    still_legal (lent (goal.at.check_cards-checked-requires-clause-room_legal c).After-standing) c.in_default.is c.begin-work.ensures.begun
+    c.begin-work.ensures.room_after
 
 pub check_cards-checked-requires-clause-good_proof : goal.check_cards-checked-requires-clause-good_proof
 check_cards-checked-requires-clause-good_proof c =
-    let k = lent {budget = c.args.budget} (λ i. (c.type_inv.left i).fits) (λ i. (c.type_inv.right i).fits) (λ i. (c.type_inv.proof i).fits) (λ i. (c.type_inv.list i).fits) c.standing.ensures in
-    good_proof k c.in_default.is
+    good_proof (lent (goal.at.check_cards-checked-requires-clause-good_proof c).After-standing) c.in_default.is
 
--- The room is what is left of the work, since it is the same room.
 pub returns : goal.returns
 returns c =
-    let k = lent {budget = c.args.budget} (λ i. (c.type_inv.left i).fits) (λ i. (c.type_inv.right i).fits) (λ i. (c.type_inv.proof i).fits) (λ i. (c.type_inv.list i).fits) c.standing.ensures in
-    let told = call_told k c.in_default.is c.begin-work.ensures.begun c.begin-work.ensures.room_after c.begin-work.ensures.budget c.check_cards-checked.ensures.tells in
-    rw (c.answer.ensures, c.room-1.given.1.1 (sym (c.check_cards-checked.ensures.same_room ∙ c.begin-work.ensures.same_room))) told
+    let b = c.begin-work.ensures in
+    let answer = c.answer.ensures in
+    rw answer
+    (call_told (lent (goal.at.returns c).After-standing) c.in_default.is b.begun b.room_after b.budget c.check_cards-checked.ensures.tells (search rules))

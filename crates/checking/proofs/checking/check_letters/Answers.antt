@@ -25,8 +25,7 @@ returns-in_err-check_letter-clause-goes c =
 
 pub loop-letter-preserved : goal.loop-letter-preserved
 loop-letter-preserved c =
-    let a = c.args in
-    (
+    let a = c.args in (
       c.check_letter.ensures.same_room ∙ c.loop-letter.invariant.0,
       letter_passed (mapped_list a.listed.map.now a.listed.list.now) a.n a.x a.y a.letters.now c.loop-letter.invariant.1 (omega arith)
           c.check_letter.ensures.goes c.in_ok-check_letter.was,

@@ -27,8 +27,7 @@ returns-in_err-check_pair-clause-ends c =
 
 pub loop-n-preserved : goal.loop-n-preserved
 loop-n-preserved c =
-    let a = c.args in
-    (
+    let a = c.args in (
       c.check_pair.ensures.same_room ∙ c.loop-n.invariant.0,
       pair_passed a.letters.now (mapped_list a.listed.map.now a.listed.list.now) c.loop-n.invariant.1
           (omega (arith, length_listed a.listed.map.now a.listed.list.now))

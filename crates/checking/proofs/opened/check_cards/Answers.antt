@@ -1,6 +1,4 @@
 -- `check_cards` opens the two pattern cards; what is told from there of the proof card and the list is told of all three cards.
-use mathlib.Core.Path.{◌≡◌, refl}
-use mathlib.Core.List.{List}
 use Rattle.std.proofs.lemmas.Result.{err_from_is_err_and}
 use Rattle.language.proofs.Laws.Words.{bytes_all}
 use Rattle.checking.proofs.Laws.Call.{cards_full, cards_opened, told_from}
@@ -13,12 +11,6 @@ returns-in_err-x-clause-tells c =
     rw (told.1, told.2)
     (cards_full (bytes_all a.left.now (λ i. (c.type_inv.left i).fits)) (bytes_all a.right.now (λ i. (c.type_inv.right i).fits))
     c.requires.can_open c.requires.room_legal c.open_both.ensures.opens _ a.proof.now a.list.now c.in_err-x.was)
-
-pub check_opened-requires-clause-stand : goal.check_opened-requires-clause-stand
-check_opened-requires-clause-stand c =
-    let a = c.args in
-    (cards_opened (bytes_all a.left.now (λ i. (c.type_inv.left i).fits)) (bytes_all a.right.now (λ i. (c.type_inv.right i).fits))
-    c.requires.can_open c.requires.room_legal c.open_both.ensures.opens c.in_ok-x.was).inside
 
 pub returns-clause-tells : goal.returns-clause-tells
 returns-clause-tells c =

@@ -3,9 +3,13 @@
 use mathlib.Core.Path.{refl}
 use Rattle.std.proofs.lemmas.Result.{err_from_is_err_and}
 use Rattle.language.proofs.Laws.Words.{bytes_all}
+use Rattle.records.specs.Record.{records}
+use Rattle.store.specs.Work.{store_of, space_of}
+use Rattle.loading.specs.Loading.{load}
 use Rattle.checking.proofs.Laws.Rooms.{both_inside}
-use Rattle.checking.proofs.Laws.ProofCard.{loadable_proof, proof_full, proof_loaded, list_named, list_inside, told_of_list}
+use Rattle.checking.proofs.Laws.ProofCard.{ProofLoaded, loadable_proof, proof_full, proof_loaded, list_named, list_inside, told_of_list}
 use Rattle.checking.proofs.opened.check_opened.Goals as goal
+use Rattle.checking.proofs.opened.check_opened.Goals.{In_ok-load}
 
 pub load-requires : goal.load-requires
 load-requires c = loadable_proof c.args.proof.now _ c.requires.good_proof.good refl
@@ -18,33 +22,24 @@ returns-in_err-load-clause-tells c =
     (proof_full a.proof.now (bytes_all a.proof.now (λ i. (c.type_inv.proof i).fits)) a.list.now c.requires.good_proof c.load.ensures.loads
     a.letters.now a.x a.y c.in_err-load.was)
 
-pub invariant_of-listed : goal.invariant_of-listed
-invariant_of-listed c =
+-- What is known once the proof card was loaded.
+loaded : (c : In_ok-load)
+    → ProofLoaded c.args.work.now c.args.proof.now (load (space_of c.args.work.now) (store_of c.args.work.now) (records c.args.proof.now)) c.load.new.map c.load.new.work
+loaded c =
     let a = c.args in
-    let loaded = proof_loaded a.proof.now (bytes_all a.proof.now (λ i. (c.type_inv.proof i).fits)) a.list.now c.requires.good_proof c.load.ensures.loads
-    c.load.ensures.mapped c.in_ok-load.was in
-    record { named = list_named loaded c.requires.good_proof }
+    proof_loaded a.proof.now (bytes_all a.proof.now (λ i. (c.type_inv.proof i).fits)) a.list.now c.requires.good_proof c.load.ensures.loads
+    c.load.ensures.mapped c.in_ok-load.was
+
+pub invariant_of-listed : goal.invariant_of-listed
+invariant_of-listed c = record { named = list_named (loaded (goal.at.invariant_of-listed c).In_ok-load) c.requires.good_proof }
 
 pub check_list-requires-clause-inside : goal.check_list-requires-clause-inside
-check_list-requires-clause-inside c =
-    let a = c.args in
-    list_inside
-    (proof_loaded a.proof.now (bytes_all a.proof.now (λ i. (c.type_inv.proof i).fits)) a.list.now c.requires.good_proof c.load.ensures.loads
-    c.load.ensures.mapped c.in_ok-load.was)
-    c.requires.good_proof
+check_list-requires-clause-inside c = list_inside (loaded (goal.at.check_list-requires-clause-inside c).In_ok-load) c.requires.good_proof
 
 pub check_list-requires-clause-stand : goal.check_list-requires-clause-stand
-check_list-requires-clause-stand c =
-    let a = c.args in
-    both_inside
-    (proof_loaded a.proof.now (bytes_all a.proof.now (λ i. (c.type_inv.proof i).fits)) a.list.now c.requires.good_proof c.load.ensures.loads
-    c.load.ensures.mapped c.in_ok-load.was).leaves
-    c.requires.stand
+check_list-requires-clause-stand c = both_inside (loaded (goal.at.check_list-requires-clause-stand c).In_ok-load).leaves c.requires.stand
 
 pub returns-clause-tells : goal.returns-clause-tells
 returns-clause-tells c =
     let a = c.args in
-    told_of_list
-    (proof_loaded a.proof.now (bytes_all a.proof.now (λ i. (c.type_inv.proof i).fits)) a.list.now c.requires.good_proof c.load.ensures.loads
-    c.load.ensures.mapped c.in_ok-load.was)
-    c.requires.good_proof a.letters.now a.x a.y c.check_list.ensures.ends
+    told_of_list (loaded (goal.at.returns-clause-tells c).In_ok-load) c.requires.good_proof a.letters.now a.x a.y c.check_list.ensures.ends

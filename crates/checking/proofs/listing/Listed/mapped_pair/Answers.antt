@@ -1,6 +1,5 @@
 -- `mapped_pair` reads the pair at its number, and its two fields go through the map.
-use mathlib.Core.List.{List}
-use mathlib.Core.Path.{◌≡◌, sym, ◌∙◌, ap}
+use mathlib.Core.Path.{sym, ◌∙◌, ap}
 use Rattle.checking.proofs.Laws.Listing.{mapped_pair, listed_pair_at}
 use Rattle.checking.proofs.listing.Listed.mapped_pair.Goals as goal
 

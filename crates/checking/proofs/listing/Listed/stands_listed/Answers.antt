@@ -45,7 +45,7 @@ pub loop-at-preserved : goal.loop-at-preserved
 loop-at-preserved c =
     let l = c.loop-at in
     below_more _ l.at l.invariant
-        (λ e. c.if-both-wanted.false (c.both.ensures ∙ ap places_of_pair c.mapped_pair-p.ensures ∙ e))
+    (λ e. c.if-both-wanted.false (c.both.ensures ∙ ap places_of_pair c.mapped_pair-p.ensures ∙ e))
 
 pub returns : goal.returns
 returns c =
