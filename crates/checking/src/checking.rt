@@ -1,179 +1,120 @@
 // The checker's pass over the list, in its fixed order: the opening pair; then pair by pair in list order the marks, and the letters
 // ascending, for each the left derived, then the right.
-ghost use Rattle.std.specs.Prelude.{[], ◌∷◌, ◌<◌, ◌≤◌};
-ghost use Rattle.store.specs.Room.{store_in, places_of};
-ghost use Rattle.store.specs.Good.{GoodStore};
+// The two places x and y stay two parameters: the definitions take them so, and a pair of them would be taken apart at each use.
+ghost use Rattle.std.specs.Prelude.{[], ◌∷◌, ◌<◌, ◌≡◌};
+ghost use Rattle.std.specs.Bool.{beq};
+ghost use Rattle.records.specs.Record.{child};
+ghost use Rattle.cards.specs.Mark.{marked};
+ghost use Rattle.store.specs.Work.{store_of, space_of};
 ghost use Rattle.pairs.specs.Pair.{pair_at};
 ghost use Rattle.pairs.specs.Room.{pairs_of};
 ghost use Rattle.checking.specs.Check.{check_letters, check_pairs, check_list};
-ghost use Rattle.checking.specs.Told.{Named, MappedInside, check_pair, Goes, Ends, mapped_list};
+ghost use Rattle.checking.specs.Listed.{mapped_list, Inside};
+ghost use Rattle.checking.specs.Told.{check_pair, Goes, Ends};
 
-use crate::listing::{mapped_pair, stands_listed};
-use answers::Checked;
-use derivative::both::{Both, derive_both};
+use crate::failing::Failure;
+use crate::listing::Listed;
+use derivative::both::derive_both;
 use pairs::pair::PAIR;
 use store::interning::marked_at;
-
-// Passes, with the places taken and the budget left; or an end, the answer of the call.
-#[derive(Clone, Copy)]
-pub enum Passing {
-    Passes(usize, u32),
-    Ends(Checked),
-}
+use store::work::Work;
 
 // The list, for the opening pair of places x and y.
 pub fn check_list(
-    room: &mut [u8],
-    places: usize,
-    list: &[u8],
-    map: &[u16],
+    work: &mut Work<'_>,
+    listed: Listed<'_>,
     letters: &[u8],
     x: usize,
     y: usize,
-    budget: u32,
-) -> Checked
-    requires good_store { GoodStore room.old places }
-    requires mapped_inside { MappedInside list.now map.now places }
-    requires x_lt_places { (x < places) × (y < places) }
-    ensures { Ends room.old places budget budget (check_list (places_of room.old) letters.now (mapped_list map.now list.now) x y (store_in room.old places) budget) result room.new }
+) -> Result<(), Failure>
+    requires inside { Inside listed.list.now listed.map.now work.old.places }
+    requires stand { (x < work.old.places) × (y < work.old.places) }
+    ensures same_room { work.new.room.ghost_name ≡ work.old.room.ghost_name }
+    ensures ends { Ends work.old (check_list (space_of work.old) letters.now (mapped_list listed.entry.map.now listed.entry.list.now) x y (store_of work.old) work.old.budget) result work.new }
 {
-    if !stands_listed(list, map, x as u16, y as u16) {
-        return Checked::OpeningMissing(places, 0);
+    if !listed.stands_listed(x as u16, y as u16) {
+        return Err(Failure::OpeningMissing);
     }
-    check_pairs(room, places, list, map, letters, budget)
+    check_pairs(work, listed, letters)
 }
 
 // Every pair in list order.
-fn check_pairs(
-    room: &mut [u8],
-    places: usize,
-    list: &[u8],
-    map: &[u16],
-    letters: &[u8],
-    budget: u32,
-) -> Checked
-    requires good_store { GoodStore room.old places }
-    requires mapped_inside { MappedInside list.now map.now places }
-    ensures { Ends room.old places budget budget (check_pairs (places_of room.old) letters.now (mapped_list map.now list.now) 0 (mapped_list map.now list.now) (store_in room.old places) budget) result room.new }
+fn check_pairs(work: &mut Work<'_>, listed: Listed<'_>, letters: &[u8]) -> Result<(), Failure>
+    requires { Inside listed.list.now listed.map.now work.old.places }
+    ensures same_room { work.new.room.ghost_name ≡ work.old.room.ghost_name }
+    ensures ends { Ends work.old (check_pairs (space_of work.old) letters.now (mapped_list listed.entry.map.now listed.entry.list.now) 0 (mapped_list listed.entry.map.now listed.entry.list.now) (store_of work.old) work.old.budget) result work.new }
 {
-    let count = list.len() / PAIR;
-    let mut taken = places;
-    let mut left = budget;
-    let mut n = 0;
-    while n < count {
-        let passed = check_pair(room, taken, list, map, letters, n, left, budget);
-        match passed {
-            Passing::Passes(now_taken, now_left) => {
-                taken = now_taken;
-                left = now_left;
-            }
-            Passing::Ends(end) => {
-                return end;
-            }
-        }
-        n += 1;
+    let count = listed.list.len() / PAIR;
+    for n in 0..count {
+        check_pair(work, listed, letters, n)?;
     }
-    let visits = budget - left;
-    Checked::Accepted(taken, visits)
+    Ok(())
 }
 
-// The pair numbered n: its marks, then each letter. So much of the budget given to the call is left.
+// The pair numbered n: its marks, then each letter.
 fn check_pair(
-    room: &mut [u8],
-    places: usize,
-    list: &[u8],
-    map: &[u16],
+    work: &mut Work<'_>,
+    listed: Listed<'_>,
     letters: &[u8],
     n: usize,
-    budget: u32,
-    given: u32,
-) -> Passing
-    requires good_store { GoodStore room.old places }
-    requires mapped_inside { MappedInside list.now map.now places }
-    requires n_bound { n < pairs_of list.now }
-    requires budget_le_given { budget ≤ given }
-    ensures { Goes room.old places budget given (check_pair (places_of room.old) letters.now (mapped_list map.now list.now) n (pair_at (mapped_list map.now list.now) n) (store_in room.old places) budget) result room.new }
+) -> Result<(), Failure>
+    requires inside { Inside listed.list.now listed.map.now work.old.places }
+    requires n_bound { n < pairs_of listed.list.now }
+    ensures same_room { work.new.room.ghost_name ≡ work.old.room.ghost_name }
+    ensures goes { Goes work.old (check_pair (space_of work.old) letters.now (mapped_list listed.entry.map.now listed.entry.list.now) n (pair_at (mapped_list listed.entry.map.now listed.entry.list.now) n) (store_of work.old) work.old.budget) result work.new }
 {
-    let p = mapped_pair(list, map, n);
+    let p = listed.mapped_pair(n);
     let x = p.left as usize;
     let y = p.right as usize;
-    let visits = given - budget;
-    if marked_at(room, places, x) != marked_at(room, places, y) {
-        return Passing::Ends(Checked::MarksDiffer(n, places, visits));
+    if !marks_agree(work, x, y) {
+        return Err(Failure::MarksDiffer(n));
     }
-    check_letters(room, places, list, map, letters, n, x, y, budget, given)
+    check_letters(work, listed, letters, n, x, y)
+}
+
+// Whether the marks at the two places say the same.
+fn marks_agree(work: &Work<'_>, x: usize, y: usize) -> bool
+    requires { (x < work.now.places) × (y < work.now.places) }
+    ensures { result ≡ beq (marked (child (store_of work.now) x)) (marked (child (store_of work.now) y)) }
+{
+    marked_at(work.room, work.places, x) == marked_at(work.room, work.places, y)
 }
 
 // The pair numbered n, of places x and y, by each letter in turn.
 fn check_letters(
-    room: &mut [u8],
-    places: usize,
-    list: &[u8],
-    map: &[u16],
+    work: &mut Work<'_>,
+    listed: Listed<'_>,
     letters: &[u8],
     n: usize,
     x: usize,
     y: usize,
-    budget: u32,
-    given: u32,
-) -> Passing
-    requires good_store { GoodStore room.old places }
-    requires mapped_inside { MappedInside list.now map.now places }
-    requires x_lt_places { (x < places) × (y < places) }
-    requires budget_le_given { budget ≤ given }
-    ensures { Goes room.old places budget given (check_letters (places_of room.old) (mapped_list map.now list.now) n x y letters.now (store_in room.old places) budget) result room.new }
+) -> Result<(), Failure>
+    requires { (x < work.old.places) × (y < work.old.places) }
+    ensures same_room { work.new.room.ghost_name ≡ work.old.room.ghost_name }
+    ensures goes { Goes work.old (check_letters (space_of work.old) (mapped_list listed.entry.map.now listed.entry.list.now) n x y letters.now (store_of work.old) work.old.budget) result work.new }
 {
-    let mut taken = places;
-    let mut left = budget;
-    let mut at = 0;
-    while at < letters.len() {
-        let passed = check_letter(room, taken, list, map, letters[at], n, x, y, left, given);
-        match passed {
-            Passing::Passes(now_taken, now_left) => {
-                taken = now_taken;
-                left = now_left;
-            }
-            Passing::Ends(end) => {
-                return Passing::Ends(end);
-            }
-        }
-        at += 1;
+    for letter in letters {
+        check_letter(work, listed, *letter, n, x, y)?;
     }
-    Passing::Passes(taken, left)
+    Ok(())
 }
 
 // The pair numbered n, of places x and y, by one letter.
 fn check_letter(
-    room: &mut [u8],
-    places: usize,
-    list: &[u8],
-    map: &[u16],
+    work: &mut Work<'_>,
+    listed: Listed<'_>,
     letter: u8,
     n: usize,
     x: usize,
     y: usize,
-    budget: u32,
-    given: u32,
-) -> Passing
-    requires good_store { GoodStore room.old places }
-    requires named { Named list.now map.now }
-    requires x_lt_places { (x < places) × (y < places) }
-    requires budget_le_given { budget ≤ given }
-    ensures { Goes room.old places budget given (check_letters (places_of room.old) (mapped_list map.now list.now) n x y (letter ∷ []) (store_in room.old places) budget) result room.new }
+) -> Result<(), Failure>
+    requires { (x < work.old.places) × (y < work.old.places) }
+    ensures same_room { work.new.room.ghost_name ≡ work.old.room.ghost_name }
+    ensures goes { Goes work.old (check_letters (space_of work.old) (mapped_list listed.entry.map.now listed.entry.list.now) n x y (letter ∷ []) (store_of work.old) work.old.budget) result work.new }
 {
-    let both = derive_both(room, places, x, y, letter, budget);
-    match both {
-        Both::At(next_x, next_y, taken, left) => {
-            let visits = given - left;
-            if stands_listed(list, map, next_x as u16, next_y as u16) {
-                Passing::Passes(taken, left)
-            } else {
-                Passing::Ends(Checked::NotListed(n, letter, taken, visits))
-            }
-        }
-        Both::Stopped(number, taken, left) => {
-            let visits = given - left;
-            Passing::Ends(Checked::Refused(number, taken, visits))
-        }
+    let (next_x, next_y) = derive_both(work, x, y, letter)?;
+    if !listed.stands_listed(next_x as u16, next_y as u16) {
+        return Err(Failure::NotListed(n, letter));
     }
+    Ok(())
 }

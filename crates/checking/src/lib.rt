@@ -4,20 +4,19 @@
 
 ghost use Rattle.checking.specs.Promise.{Checks};
 
-use crate::opened::check_opened;
+use crate::opened::check_cards;
 use crate::refusing::standing;
+use crate::telling::answer;
 use answers::Checked;
-use pairs::letters::tried;
-use pairs::opening::{Opened, open_both};
-use refusals::Standing;
-use refusals::limits::MOST_LETTERS;
-use refusals::numbers::NO_FREE_PLACE;
+use loading::beginning::begin;
 
 pub mod checking;
+pub mod failing;
 pub mod listing;
 pub mod naming;
 pub mod opened;
 pub mod refusing;
+pub mod telling;
 
 // Whether the list, of pairs of the proof card's records, proves the two pattern cards' languages equal.
 pub fn check(
@@ -30,17 +29,11 @@ pub fn check(
 ) -> Checked
     ensures { Checks left.now right.now proof.now list.now room.old budget result room.new }
 {
-    let found = standing(left, right, proof, list, room.len());
-    if let Standing::Refused(number) = found {
-        return Checked::Refused(number, 0, 0);
+    if let Err(refusal) = standing(left, right, proof, list, room.len()) {
+        return Checked::Refused(refusal.number(), 0, 0);
     }
-    let mut letters = [0u8; MOST_LETTERS];
-    let count = tried(left, right, &mut letters);
-    let opened = open_both(left, right, room);
-    match opened {
-        Opened::At(x, y, taken) => {
-            check_opened(room, taken, proof, list, &letters[0..count], x, y, budget)
-        }
-        Opened::Full(taken) => Checked::Refused(NO_FREE_PLACE, taken, 0),
-    }
+    let mut work = begin(room, budget);
+    let checked = check_cards(&mut work, left, right, proof, list);
+    let visits = budget - work.budget;
+    answer(checked, work.places, visits)
 }

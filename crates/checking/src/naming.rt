@@ -10,13 +10,10 @@ use pairs::pair::{PAIR, read};
 pub fn all_named(list: &[u8], count: usize) -> bool
     ensures { result ≡ all_named count (listed_pairs list.now) }
 {
-    let pairs = list.len() / PAIR;
-    let mut at = 0;
-    while at < pairs {
+    for at in 0..list.len() / PAIR {
         if !named(list, at, count) {
             return false;
         }
-        at += 1;
     }
     true
 }

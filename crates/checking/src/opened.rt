@@ -1,39 +1,62 @@
 // Behind the two pattern cards the proof card is loaded, and the list is checked with its records' places.
-ghost use Rattle.std.specs.Prelude.{◌<◌};
+ghost use Rattle.std.specs.Prelude.{◌<◌, ◌≡◌, false, length};
 ghost use Rattle.records.specs.Record.{records};
-ghost use Rattle.store.specs.Room.{store_in, places_of};
+ghost use Rattle.store.specs.Room.{wrong_room};
+ghost use Rattle.store.specs.Work.{store_of, space_of};
 ghost use Rattle.loading.specs.Loading.{load};
-ghost use Rattle.store.specs.Good.{GoodStore};
 ghost use Rattle.pairs.specs.Room.{listed_pairs};
-ghost use Rattle.checking.specs.Outcome.{check_loaded};
-ghost use Rattle.checking.specs.Told.{GoodProof, Tells};
+ghost use Rattle.pairs.specs.Tried.{tried};
+ghost use Rattle.pairs.specs.Opening.{open_both};
+ghost use Rattle.pairs.specs.Told.{CanOpen};
+ghost use Rattle.checking.specs.Listed.{GoodProof};
+ghost use Rattle.checking.specs.Outcome.{check_loaded, check_opened};
+ghost use Rattle.checking.specs.Told.{Tells};
 
 use crate::checking::check_list;
-use answers::Checked;
-use loading::card::{Loaded, load};
-use refusals::limits::MOST_PROOF_RECORDS;
-use refusals::numbers::NO_FREE_PLACE;
+use crate::failing::Failure;
+use crate::listing::Listed;
+use loading::card::load;
+use pairs::letters::tried;
+use pairs::opening::open_both;
+use refusals::limits::{MOST_LETTERS, MOST_PROOF_RECORDS};
+use store::work::Work;
+
+// The two pattern cards are opened, and the list is checked by the letters of either.
+pub fn check_cards(
+    work: &mut Work<'_>,
+    left: &[u8],
+    right: &[u8],
+    proof: &[u8],
+    list: &[u8],
+) -> Result<(), Failure>
+    requires can_open { CanOpen left.now right.now work.old }
+    requires room_legal { wrong_room (length work.old.room.now) ≡ false }
+    requires good_proof { GoodProof proof.now list.now }
+    ensures same_room { work.new.room.ghost_name ≡ work.old.room.ghost_name }
+    ensures tells { Tells work.old (check_opened (space_of work.old) (tried left.now right.now) (records proof.now) (listed_pairs list.now) work.old.budget (open_both (space_of work.old) (records left.now) (records right.now))) result work.new }
+{
+    let mut space = [0u8; MOST_LETTERS];
+    let letters = tried(left, right, &mut space);
+    let (x, y) = open_both(work, left, right)?;
+    check_opened(work, proof, list, letters, x, y)
+}
 
 // The opening pair is of places x and y.
 pub fn check_opened(
-    room: &mut [u8],
-    places: usize,
+    work: &mut Work<'_>,
     proof: &[u8],
     list: &[u8],
     letters: &[u8],
     x: usize,
     y: usize,
-    budget: u32,
-) -> Checked
-    requires good_store { GoodStore room.old places }
+) -> Result<(), Failure>
     requires good_proof { GoodProof proof.now list.now }
-    requires x_lt_places { (x < places) × (y < places) }
-    ensures { Tells room.old places (check_loaded (places_of room.old) letters.now (listed_pairs list.now) budget x y (load (places_of room.old) (store_in room.old places) (records proof.now))) result room.new }
+    requires stand { (x < work.old.places) × (y < work.old.places) }
+    ensures same_room { work.new.room.ghost_name ≡ work.old.room.ghost_name }
+    ensures tells { Tells work.old (check_loaded (space_of work.old) letters.now (listed_pairs list.now) work.old.budget x y (load (space_of work.old) (store_of work.old) (records proof.now))) result work.new }
 {
     let mut map = [0u16; MOST_PROOF_RECORDS];
-    let loaded = load(room, places, proof, &mut map);
-    match loaded {
-        Loaded::All(taken) => check_list(room, taken, list, &map, letters, x, y, budget),
-        Loaded::Full(taken) => Checked::Refused(NO_FREE_PLACE, taken, 0),
-    }
+    load(work, proof, &mut map)?;
+    let listed = Listed { list, map: &map };
+    check_list(work, listed, letters, x, y)
 }

@@ -19,8 +19,7 @@ use Rattle.pairs.specs.Pair.{pair_at, stands_in}
 use Rattle.searching.proofs.Laws.Parts.{DeriveLaw}
 use Rattle.checking.specs.Check.{Checking, Passing, passes, ends, check_letters, check_pairs, check_list}
 use Rattle.checking.specs.Along.{visits_by_letters, visits_by_pairs, visits_of_list}
-use Rattle.checking.specs.Told.{checking_store, checking_left, passing_store, passing_left}
-use Rattle.checking.proofs.Laws.Turns.{marks_equal, by_listed, right_then, left_then, letters_then, marks_then, opening_then}
+use Rattle.checking.proofs.Laws.Turns.{checking_store, checking_left, passing_store, passing_left, marks_equal, by_listed, right_then, left_then, letters_then, marks_then, opening_then}
 
 -- From one store and budget to another, at this cost.
 pub record Ran (room : ℕ) (store : List Record) (budget cost : ℕ) (store' : List Record) (left : ℕ) : Type 0 where

@@ -18,7 +18,7 @@ use Rattle.searching.proofs.Laws.StoreMachine.{store_sense, store_lawful, Beside
 use Rattle.checking.specs.Check.{Checking, accepted, rejected, cut_off, check_list}
 use Rattle.checking.specs.Along.{visits_of_list}
 use Rattle.checking.specs.Point.{GoodTable, FailsAt}
-use Rattle.checking.specs.Told.{checking_store, checking_left}
+use Rattle.checking.proofs.Laws.Turns.{checking_store, checking_left}
 use Rattle.checking.proofs.Laws.Unfolds.{told, list_is}
 use Rattle.checking.proofs.Laws.Point.{good_of, fails_of}
 use Rattle.checking.proofs.Laws.Along.{Ran, Inside, list_ran}

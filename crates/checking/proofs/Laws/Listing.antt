@@ -7,7 +7,7 @@ use Rattle.pairs.specs.Room.{pairs_of, listed_pairs}
 use Rattle.pairs.specs.Laws.Pair.{length_first_pairs, first_pair_at, places-one}
 use Rattle.pairs.specs.Laws.Table.{stands_at, stands_listed}
 use Rattle.checking.specs.Outcome.{mapped}
-use Rattle.checking.specs.Told.{MappedInside, mapped_list}
+use Rattle.checking.specs.Listed.{mapped_list, Inside}
 use Rattle.checking.proofs.Laws.Refusals.{length_mapped}
 
 -- A pair whose two fields go through the map.
@@ -31,7 +31,7 @@ listed_pair_at map list n l =
     ∙ ap (mapped_pair map) (first_pair_at (pairs_of list) list n l)
 
 -- A listed pair is mapped to places of the store.
-pub pair_inside : {list map : List ℕ} {places : ℕ} → MappedInside list map places → (n : ℕ) → n < pairs_of list
+pub pair_inside : {list map : List ℕ} {places : ℕ} → Inside list map places → (n : ℕ) → n < pairs_of list
     → {p : Pair} → p ≡ pair_at (mapped_list map list) n → (p.left < places) × (p.right < places)
 pair_inside {list} {map} m n l e = rw (e ∙ listed_pair_at map list n l) (m.inside n l)
 

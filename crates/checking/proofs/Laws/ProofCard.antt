@@ -1,42 +1,43 @@
--- Loading the proof card in a room: a proof card in good standing can be loaded with a map of an entry for each record that it may have; the
--- list is then mapped to places of the store, as the definition maps it, and what the code answers of the list is told of the whole.
-use Rattle.std.specs.Prelude.{ℕ, suc, ◌/◌, ◌<◌, ◌≤◌, ◌≡◌, length, get_or, take}
-use Rattle.std.proofs.Common.{le_refl, arith, sym, ◌∙◌, ap, length-take, get_or-take}
+-- Loading the proof card behind the store that stands: a proof card in good standing can be loaded with a map of an entry for each record that it may
+-- have; the list is then mapped to places of the store, as the definition maps it, and what the code answers of the list is told of the whole.
+use Rattle.std.specs.Prelude.{ℕ, suc, ◌-◌, ◌/◌, ◌<◌, ◌≤◌, ◌≡◌, length, get_or, take}
+use Rattle.std.proofs.Common.{arith, sym, ◌∙◌, ap, length-take, get_or-take}
+use Rattle.std.specs.declared.result.Result.{Result}
+use Rattle.std.specs.declared.result.Result.TheVariants.{Ok, Err}
 use mathlib.Core.List.{List, [], ◌∷◌}
 use Rattle.std.proofs.Math.Path.{refl, ap₂}
-use Rattle.answers.specs.declared.Checked.{Checked}
-use Rattle.answers.specs.declared.Checked.TheVariants.{Refused}
-use Rattle.answers.specs.Checking.{told}
-use Rattle.answers.proofs.Laws.Checking.{tells_so}
 use Rattle.language.specs.Word.{Bytes}
 use Rattle.records.specs.declared.record.Record.{Record}
+use Rattle.refusals.specs.declared.refusal.Refusal.{Refusal}
+use Rattle.refusals.specs.declared.refusal.Refusal.TheVariants.{NoFreePlace}
 use Rattle.refusals.specs.Order.{Good}
-use Rattle.refusals.specs.Numbers.{no_free_place}
 use Rattle.refusals.specs.Limits.{most_proof_records}
 use Rattle.records.specs.Record.{records}
 use Rattle.cards.specs.Examine.{proof_card}
 use Rattle.records.specs.Laws.Record.{length_records}
-use Rattle.loading.proofs.Laws.Told.{Loaded}
-use Rattle.loading.proofs.Laws.Told.{All, Full}
-use Rattle.store.specs.Room.{store_in, places_of, laid}
-use Rattle.loading.specs.Loading.{Loading, loaded, after_loading}
-use Rattle.loading.proofs.Laws.Told.{told_loading}
-use Rattle.loading.specs.Told.{Mapped}
-use Rattle.store.specs.Good.{GoodStore}
-use Rattle.loading.specs.Told.{Loadable}
-use Rattle.store.proofs.Laws.GoodRoom.{room_ready}
+use Rattle.store.specs.declared.work.Work.{Work}
+use Rattle.store.specs.Room.{store_in, laid}
+use Rattle.store.specs.Work.{store_of, space_of, Holds}
+use Rattle.store.specs.Laws.Wall.{Kept}
+use Rattle.store.proofs.Laws.Room.{store_of_laid}
+use Rattle.store.proofs.Laws.GoodRoom.{room_ready, length_store_in}
+use Rattle.loading.specs.Loading.{Loading, loaded, no_room, load}
+use Rattle.loading.specs.Told.{Loadable, Loads, Mapped}
+use Rattle.loading.proofs.Laws.Told.{loading_full_by}
 use Rattle.loading.proofs.Laws.Cards.{examined_loadable}
 use Rattle.loading.proofs.Laws.Loading.{AllLoaded, LoadLaw, all_loaded, was_full, load_law}
-use Rattle.loading.proofs.Laws.LoadingRoom.{loading_in}
 use Rattle.pairs.specs.declared.pair.Pair.{Pair}
 use Rattle.pairs.specs.Pair.{pair_record, pair_at}
 use Rattle.pairs.specs.Room.{pairs_of, listed_pairs}
 use Rattle.pairs.specs.Laws.Pair.{length_first_pairs, first_pair_at}
-use Rattle.checking.specs.Check.{Checking, accepted, rejected, cut_off, check_list}
-use Rattle.checking.specs.Outcome.{mapped, Outcome, of_checking, check_loaded}
-use Rattle.checking.specs.Told.{MappedInside, GoodProof, checking_store, checking_left, Leaves, Ends, Tells, mapped_list}
+use Rattle.checking.specs.declared.failing.Failure.{Failure}
+use Rattle.checking.specs.declared.failing.Failure.TheVariants.{Refused}
+use Rattle.checking.specs.Check.{check_list}
+use Rattle.checking.specs.Outcome.{mapped, of_checking, check_loaded}
+use Rattle.checking.specs.Listed.{mapped_list, Named, Inside, GoodProof}
+use Rattle.checking.specs.Told.{Leaves, Ends, Tells}
 use Rattle.checking.proofs.Laws.Refusals.{good_proof, named_below}
-use Rattle.checking.proofs.Laws.Rooms.{Stood, good_now, places_now, store_now, both_inside, left_from}
+use Rattle.checking.proofs.Laws.Rooms.{space_now, left_from}
 
 -- A proof card in good standing can be loaded.
 
@@ -63,26 +64,26 @@ module _ (map places : List ℕ) (begins : take (length places) map ≡ places) 
       (λ i. record { left = same_place p.left here.0 i; right = same_place p.right here.1 i; origin = p.origin; letter = p.letter })
       (mapped_same rest (λ n l. h (suc n) (omega arith)))
 
--- What the code told of loading is one thing.
-not_both : {answer : Loaded} {taken stood : ℕ} → answer ≡ All taken → answer ≡ Full stood → ⊥
-not_both e f = let z : ◌≡◌ {A = ℕ} 0 1 = cc in omega arith
+-- A store that stands afterwards, grown from the first, with nothing spent.
 
--- The proof card was loaded behind the store of a room: the places of its records begin the map, and `store` stands in the room.
-record ProofLoaded (room : List ℕ) (places : ℕ) (proof : List ℕ) (l : Loading) (map : List ℕ) (taken : ℕ) (room₁ : List ℕ) : Type 0 where
-  at_places : List ℕ
-  store : List Record
-  is : l ≡ loaded at_places store
-  law : AllLoaded (places_of room) (records proof) (store_in room places) [] (records proof) at_places store
-  begins : take (length at_places) map ≡ at_places
-  taken_is : taken ≡ length store
-  room_is : room₁ ≡ laid store room
+pub holds_store : {w : Work} {store : List Record} {w' : Work} → Holds w store w' → store_of w' ≡ store
+holds_store {w} {store} h = ap₂ store_in h.leaves h.taken ∙ store_of_laid store w.room.now
 
-stands_so : (budget : ℕ) (c : Checking) → checking_store c ≡ (of_checking budget c).store
-stands_so budget (accepted store left) = refl
-stands_so budget (rejected point store left) = refl
-stands_so budget (cut_off number store left) = refl
+pub held_leaves : {w : Work} {store : List Record} {w' : Work} → Holds w store w' → Kept (space_of w) (store_of w) store → w'.budget ≡ w.budget → Leaves w w'
+held_leaves {w} h k u =
+    let s = holds_store h in
+    record { room_is = h.leaves ∙ ap (λ (v : List Record). laid v w.room.now) (sym s); kept = rw s k; spent = omega (arith, u) }
 
-module _ {room : List ℕ} {places : ℕ} {proof : List ℕ} {l : Loading} {map : List ℕ} {taken : ℕ} {room₁ : List ℕ} (p : ProofLoaded room places proof l map taken room₁)
+-- The proof card was loaded: the places of its records begin the map.
+pub record ProofLoaded (w : Work) (proof : List ℕ) (l : Loading) (map : List ℕ) (w₁ : Work) : Type 0 where
+  pub at_places : List ℕ
+  pub is : l ≡ loaded at_places (store_of w₁)
+  pub law : AllLoaded (space_of w) (records proof) (store_of w) [] (records proof) at_places (store_of w₁)
+  pub begins : take (length at_places) map ≡ at_places
+  pub leaves : Leaves w w₁
+  pub unspent : w₁.budget ≡ w.budget
+
+module _ {w : Work} {proof : List ℕ} {l : Loading} {map : List ℕ} {w₁ : Work} (p : ProofLoaded w proof l map w₁)
     {list : List ℕ} (can : GoodProof proof list) where
   -- Every listed pair names two of its records.
 
@@ -103,92 +104,73 @@ module _ {room : List ℕ} {places : ℕ} {proof : List ℕ} {l : Loading} {map 
   same_list : mapped_list map list ≡ mapped p.at_places (listed_pairs list)
   same_list = mapped_same map p.at_places p.begins (listed_pairs list) named
 
-  place_inside : (i : ℕ) → i < length p.at_places → get_or map i 0 < taken
+  place_inside : (i : ℕ) → i < length p.at_places → get_or map i 0 < w₁.places
   place_inside i l =
       let e = same_place map p.at_places p.begins i l in
       let h = p.law.standing.inside i l in
-      omega (arith, p.taken_is)
+      omega (arith, length_store_in w₁.room.now w₁.places)
 
-  list_mapped : MappedInside list map taken
-  list_mapped =
+  pub list_named : Named list map
+  list_named =
       record {
-        named =
-            record {
-              names = λ n l.
-                  let h = named_in_run n l in
-                  let i = h.0 in
-                  let j = h.1 in
-                  let few = as_many map p.at_places p.begins in
-                  (omega arith, omega arith);
-            };
-        inside = λ n l. let h = named_in_run n l in (place_inside (pair_record list n).left h.0, place_inside (pair_record list n).right h.1);
+        names = λ n l.
+            let h = named_in_run n l in
+            let i = h.0 in
+            let j = h.1 in
+            let few = as_many map p.at_places p.begins in
+            (omega arith, omega arith);
       }
 
-  module _ (good : GoodStore room places) (letters : List ℕ) (x y budget : ℕ) where
-    abbrev stood : Stood room places budget room₁ taken budget
-    stood =
-        record {
-          good = good;
-          store = p.store;
-          taken_is = p.taken_is;
-          leaves = record { room_is = p.room_is; kept = p.law.kept; spent = le_refl budget };
-        }
+  pub list_inside : Inside list map w₁.places
+  list_inside =
+      record { inside = λ n l. let h = named_in_run n l in (place_inside (pair_record list n).left h.0, place_inside (pair_record list n).right h.1) }
 
-    ready_so : (x < places) × (y < places) → GoodStore room₁ taken × (MappedInside list map taken × ((x < taken) × (y < taken)))
-    ready_so inside = (good_now stood, (list_mapped, both_inside stood inside))
-
-    -- What the code answers of the list is told of the whole.
-    told_of_list : {answer : Checked} {room₂ : List ℕ}
-        → Ends room₁ taken budget budget (check_list (places_of room₁) letters (mapped_list map list) x y (store_in room₁ taken) budget) answer room₂
-        → Tells room places (check_loaded (places_of room) letters (listed_pairs list) budget x y l) answer room₂
-    told_of_list {room₂ = room₂} n =
-        let k = rw (places_now stood, store_now stood, same_list) at n in
-        let c = check_list (places_of room) letters (mapped p.at_places (listed_pairs list)) x y p.store budget in
-        let o : Leaves room places budget (checking_store c) (checking_left c) room₂ = left_from stood k.leaves in
-        rw p.is
-        (record {
-          tells = ap told k.answers ∙ tells_so (of_checking budget c).tells;
-          leaves = o.room_is ∙ ap (λ (s : List Record). laid s room) (stands_so budget c);
-          kept = rw (stands_so budget c) at o.kept;
-        })
+  -- What the code answers of the list is told of the whole.
+  pub told_of_list : (letters : List ℕ) (x y : ℕ) {answer : Result (Unit {0}) Failure} {w₂ : Work}
+      → Ends w₁ (check_list (space_of w₁) letters (mapped_list map list) x y (store_of w₁) w₁.budget) answer w₂
+      → Tells w (check_loaded (space_of w) letters (listed_pairs list) w.budget x y l) answer w₂
+  told_of_list letters x y n =
+      let same : check_list (space_of w) letters (mapped p.at_places (listed_pairs list)) x y (store_of w₁) w.budget
+      ≡ check_list (space_of w₁) letters (mapped_list map list) x y (store_of w₁) w₁.budget = rw (space_now p.leaves, same_list, p.unspent) refl in
+      record {
+        is = ap (check_loaded (space_of w) letters (listed_pairs list) w.budget x y) p.is ∙ ap (of_checking w.budget) (same ∙ n.is);
+        leaves = left_from p.leaves n.leaves;
+      }
 
 -- The code, by what loading answered.
-module _ {room : List ℕ} {places : ℕ} (good : GoodStore room places) (proof : List ℕ) (proofs : Bytes proof) (list : List ℕ) (can : GoodProof proof list)
-    (letters : List ℕ) (x y budget : ℕ) (map : List ℕ) {answer : Loaded} {room₁ : List ℕ} (a : answer ≡ told_loading (loading_in room places proof))
-    (b : (room₁ ≡ laid (after_loading (loading_in room places proof)) room) × Mapped (loading_in room places proof) map) where
-  abbrev outcome : Loading → Outcome
-  outcome l = check_loaded (places_of room) letters (listed_pairs list) budget x y l
-
-  law : LoadLaw (places_of room) (records proof) (store_in room places) [] (records proof) (loading_in room places proof)
-  law = load_law (places_of room) (records proof) (good_proof proof proofs can.good) (store_in room places) (room_ready good)
+module _ {w : Work} (proof : List ℕ) (proofs : Bytes proof) (list : List ℕ) (can : GoodProof proof list) {answer : Result (Unit {0}) Refusal} {w₁ : Work}
+    (k : Loads w (load (space_of w) (store_of w) (records proof)) answer w₁) where
+  law : LoadLaw (space_of w) (records proof) (store_of w) [] (records proof) (load (space_of w) (store_of w) (records proof))
+  law = load_law (space_of w) (records proof) (good_proof proof proofs can.good) (store_of w) (room_ready w.good)
 
   -- The room is full.
-  pub proof_full : {taken : ℕ} → answer ≡ Full taken → Tells room places (outcome (loading_in room places proof)) (Refused no_free_place taken 0) room₁
-  proof_full {taken} e = go law a b.0
+  pub proof_full : (letters : List ℕ) (x y : ℕ) {refusal : Refusal} → answer ≡ Err refusal
+      → Tells w (check_loaded (space_of w) letters (listed_pairs list) w.budget x y (load (space_of w) (store_of w) (records proof))) (Err (Refused refusal)) w₁
+  proof_full letters x y {refusal} e = go law k
     where
-      go : {l : Loading} → LoadLaw (places_of room) (records proof) (store_in room places) [] (records proof) l → answer ≡ told_loading l
-          → room₁ ≡ laid (after_loading l) room → Tells room places (outcome l) (Refused no_free_place taken 0) room₁
-      go (all_loaded h) t w = absurd (not_both t e)
-      go (was_full {store' = s} f) t w =
-          let stood : taken ≡ length s = cc in
-          record { tells = rw stood; leaves = w; kept = f.kept }
+      go : {l : Loading} → LoadLaw (space_of w) (records proof) (store_of w) [] (records proof) l → Loads w l answer w₁
+          → Tells w (check_loaded (space_of w) letters (listed_pairs list) w.budget x y l) (Err (Refused refusal)) w₁
+      go (all_loaded h) k = let f = sym e ∙ k.answers in let z : ◌≡◌ {A = ℕ} 0 1 = cc in absurd (omega arith)
+      go (was_full {store' = s} f) k =
+          let r : refusal ≡ NoFreePlace = loading_full_by (no_room s) (sym e ∙ k.answers) in
+          let none : w.budget - w₁.budget ≡ 0 = omega (arith, k.unspent) in
+          record { is = rw (r, none, holds_store k.holds) refl; leaves = held_leaves k.holds f.kept k.unspent }
 
   -- All its records are loaded.
-  module _ {taken : ℕ} (e : answer ≡ All taken) where
-    proof_loaded : ProofLoaded room places proof (loading_in room places proof) map taken room₁
-    proof_loaded = go law a b.0 b.1
-      where
-        go : {l : Loading} → LoadLaw (places_of room) (records proof) (store_in room places) [] (records proof) l → answer ≡ told_loading l
-            → room₁ ≡ laid (after_loading l) room → Mapped l map → ProofLoaded room places proof l map taken room₁
-        go (all_loaded {places' = ps} {store' = s} h) t w m =
-            record { at_places = ps; store = s; is = refl; law = h; begins = m; taken_is = cc; room_is = w }
-        go (was_full f) t w m = absurd (not_both e t)
-
-    -- The list can be checked.
-    pub list_ready : (x < places) × (y < places) → GoodStore room₁ taken × (MappedInside list map taken × ((x < taken) × (y < taken)))
-    list_ready inside = ready_so proof_loaded can good letters x y budget inside
-
-    pub list_told : {answer : Checked} {room₂ : List ℕ}
-        → Ends room₁ taken budget budget (check_list (places_of room₁) letters (mapped_list map list) x y (store_in room₁ taken) budget) answer room₂
-        → Tells room places (outcome (loading_in room places proof)) answer room₂
-    list_told n = told_of_list proof_loaded can good letters x y budget n
+  pub proof_loaded : {map : List ℕ} → Mapped (load (space_of w) (store_of w) (records proof)) map → {told : Unit {0}} → answer ≡ Ok told
+      → ProofLoaded w proof (load (space_of w) (store_of w) (records proof)) map w₁
+  proof_loaded {map} m e = go law k m
+    where
+      go : {l : Loading} → LoadLaw (space_of w) (records proof) (store_of w) [] (records proof) l → Loads w l answer w₁ → Mapped l map
+          → ProofLoaded w proof l map w₁
+      go (all_loaded {places' = ps} {store' = s} h) k m =
+          let stands : store_of w₁ ≡ s = holds_store k.holds in
+          record {
+            at_places = ps;
+            is = ap (loaded ps) (sym stands);
+            law = rw stands h;
+            begins = m;
+            leaves = held_leaves k.holds h.kept k.unspent;
+            unspent = k.unspent;
+          }
+      go (was_full f) k m = let f = sym e ∙ k.answers in let z : ◌≡◌ {A = ℕ} 0 1 = cc in absurd (omega arith)

@@ -10,7 +10,7 @@ use Rattle.cards.specs.Mark.{marked}
 use Rattle.derivative.specs.Derivative.{Deriving, derived, stopped, derive}
 use Rattle.pairs.specs.declared.pair.Pair.{Pair}
 use Rattle.pairs.specs.Pair.{stands_in}
-use Rattle.checking.specs.Check.{Checking, rejected, cut_off, Passing, passes, ends, check_letters, check_pairs, check_list}
+use Rattle.checking.specs.Check.{Checking, accepted, rejected, cut_off, Passing, passes, ends, check_letters, check_pairs, check_list}
 
 -- The two marks of a pair, compared.
 abbrev pub marks_equal : List Record → Pair → Bool
@@ -52,3 +52,23 @@ module _ (room : ℕ) (letters : List ℕ) (pairs : List Pair) (x y : ℕ) (stor
   pub opening_unlisted : (b : ℕ) → stands_in pairs x y ≡ false → check_list room letters pairs x y store b ≡ rejected at_opening store b
   unfolding check_list
   opening_unlisted b e = ap (opening_then b) e
+
+-- The store afterwards, and the budget left.
+
+abbrev pub checking_store : Checking → List Record
+checking_store (accepted store left) = store
+checking_store (rejected point store left) = store
+checking_store (cut_off number store left) = store
+
+abbrev pub checking_left : Checking → ℕ
+checking_left (accepted store left) = left
+checking_left (rejected point store left) = left
+checking_left (cut_off number store left) = left
+
+abbrev pub passing_store : Passing → List Record
+passing_store (passes store left) = store
+passing_store (ends c) = checking_store c
+
+abbrev pub passing_left : Passing → ℕ
+passing_left (passes store left) = left
+passing_left (ends c) = checking_left c

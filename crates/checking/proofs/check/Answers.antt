@@ -1,65 +1,45 @@
--- `check` comes to its outcome: refused at once it tells that; else it opens the pattern cards and checks the list as the definition does, by the
--- letters that the two pattern cards mention, and what is so told is true.
-use Prim.Native.Nat.{ℕ, ◌-◌}
-use native.Mathlib.Omega.{arith}
-use mathlib.Core.List.{List}
-use mathlib.Core.Path.{◌≡◌, ap}
-use lib.ListN.{length, take, length-take}
-use Rattle.std.proofs.Common.{◌<◌, get_or}
-use Rattle.refusals.specs.Order.{Standing}
-use Rattle.checking.specs.Outcome.{check_standing}
+-- `check` comes to its outcome: refused at once it tells that; else it checks the cards as the definition does, and what is so told is true.
+use Rattle.std.proofs.Common.{rules}
 use Rattle.language.proofs.Laws.Words.{bytes_all}
-use Rattle.checking.proofs.Laws.Call.{Lent, refused_at_once, can_open, full_in_opening, opened_ready, checked_opened}
+use Rattle.checking.proofs.Laws.Call.{Lent, refused_at_once, not_refused, good_proof, can_open, still_legal, call_told}
 use Rattle.checking.proofs.check.Goals as goal
-
--- The letters lent are the first so many of those written.
-from_first : (count : ℕ) (letters : List ℕ) {those : List ℕ} → take count letters ≡ those → take (count - 0) letters ≡ those
-from_first count letters e = let all : count - 0 ≡ count = omega arith in rw all e
+use Rattle.checking.proofs.check.Goals.{After-standing}
 
 -- What is known once the refusals were asked.
-lent : {left right proof list room : List ℕ} {budget : ℕ} {found : Standing} → ((i : ℕ) → get_or left i 0 < 256) → ((i : ℕ) → get_or right i 0 < 256)
-    → ((i : ℕ) → get_or proof i 0 < 256) → ((i : ℕ) → get_or list i 0 < 256) → ((i : ℕ) → get_or room i 0 < 256)
-    → found ≡ check_standing left right proof list (length room) → Lent left right proof list room budget found
-lent {left} {right} {proof} {list} {room} a b d e f g =
+lent : (c : After-standing) → Lent c.args.left.now c.args.right.now c.args.proof.now c.args.list.now c.args.room.now c.args.budget c.standing.result
+lent c =
     record {
-      lefts = bytes_all left a;
-      rights = bytes_all right b;
-      proofs = bytes_all proof d;
-      lists = bytes_all list e;
-      bytes = bytes_all room f;
-      standing = g;
+      lefts = bytes_all c.args.left.now (λ i. (c.type_inv.left i).fits);
+      rights = bytes_all c.args.right.now (λ i. (c.type_inv.right i).fits);
+      proofs = bytes_all c.args.proof.now (λ i. (c.type_inv.proof i).fits);
+      lists = bytes_all c.args.list.now (λ i. (c.type_inv.list i).fits);
+      standing = c.standing.ensures;
     }
 
-pub returns-in-Refused : goal.returns-in-Refused
-returns-in-Refused c = refused_at_once (lent {budget = c.args.budget} (λ i. (c.shared_slice_known-1.given i).fits) (λ i. (c.shared_slice_known-2-1.given i).fits) (λ i. (c.shared_slice_known-3-1.given i).fits) (λ i. (c.shared_slice_known-4-1.given i).fits) (λ i. (c.slice_known-1.given i).fits) c.standing-found.ensures) c.in-Refused.is
+pub returns-in-Err : goal.returns-in-Err
+returns-in-Err c =
+    let number = c.number.ensures in
+    rw number (refused_at_once (lent (goal.at.returns-in-Err c).After-standing) c.in-Err.is)
 
-pub open_both-opened-requires : goal.open_both-opened-requires
-open_both-opened-requires c =
-    let e = c in
-    can_open (lent {budget = c.args.budget} (λ i. (c.shared_slice_known-1.given i).fits) (λ i. (c.shared_slice_known-2-1.given i).fits) (λ i. (c.shared_slice_known-3-1.given i).fits) (λ i. (c.shared_slice_known-4-1.given i).fits) (λ i. (c.slice_known-1.given i).fits) c.standing-found.ensures) e.in_default.is
+pub begin-work-requires : goal.begin-work-requires
+begin-work-requires c = (not_refused (lent (goal.at.begin-work-requires c).After-standing) c.in_default.is).room_legal
 
-pub slice_bounds-check_opened-end : goal.slice_bounds-check_opened-end
-slice_bounds-check_opened-end c =
-    let t = c in
-    omega (arith, t.tried-count.ensures.value, ap length t.tried-count.ensures.letters_after, length-take t.tried-count.result t.tried-count.new.letters)
+pub check_cards-checked-requires-clause-can_open : goal.check_cards-checked-requires-clause-can_open
+check_cards-checked-requires-clause-can_open c =
+    can_open (lent (goal.at.check_cards-checked-requires-clause-can_open c).After-standing) c.in_default.is c.begin-work.ensures.begun c.begin-work.ensures.room_after
 
-pub check_opened-requires : goal.check_opened-requires
-check_opened-requires c =
-    let o = c in
-    let e = o in
-    let told = opened_ready (lent {budget = c.args.budget} (λ i. (c.shared_slice_known-1.given i).fits) (λ i. (c.shared_slice_known-2-1.given i).fits) (λ i. (c.shared_slice_known-3-1.given i).fits) (λ i. (c.shared_slice_known-4-1.given i).fits) (λ i. (c.slice_known-1.given i).fits) c.standing-found.ensures) e.in_default.is o.open_both-opened.ensures c.in-At.is in
-    record { good_store = told.0; good_proof = told.1.0; x_lt_places = told.1.1 }
+pub check_cards-checked-requires-clause-room_legal : goal.check_cards-checked-requires-clause-room_legal
+check_cards-checked-requires-clause-room_legal c =
+    still_legal (lent (goal.at.check_cards-checked-requires-clause-room_legal c).After-standing) c.in_default.is c.begin-work.ensures.begun
+    c.begin-work.ensures.room_after
 
-pub returns-in-At : goal.returns-in-At
-returns-in-At c =
-    let o = c in
-    let t = o in
-    let e = t in
-    checked_opened (lent {budget = c.args.budget} (λ i. (c.shared_slice_known-1.given i).fits) (λ i. (c.shared_slice_known-2-1.given i).fits) (λ i. (c.shared_slice_known-3-1.given i).fits) (λ i. (c.shared_slice_known-4-1.given i).fits) (λ i. (c.slice_known-1.given i).fits) c.standing-found.ensures) e.in_default.is o.open_both-opened.ensures c.in-At.is
-    (from_first t.tried-count.result t.tried-count.new.letters t.tried-count.ensures.letters_after) c.check_opened.ensures
+pub check_cards-checked-requires-clause-good_proof : goal.check_cards-checked-requires-clause-good_proof
+check_cards-checked-requires-clause-good_proof c =
+    good_proof (lent (goal.at.check_cards-checked-requires-clause-good_proof c).After-standing) c.in_default.is
 
-pub returns-in-Full : goal.returns-in-Full
-returns-in-Full c =
-    let o = c in
-    let e = o in
-    full_in_opening (lent {budget = c.args.budget} (λ i. (c.shared_slice_known-1.given i).fits) (λ i. (c.shared_slice_known-2-1.given i).fits) (λ i. (c.shared_slice_known-3-1.given i).fits) (λ i. (c.shared_slice_known-4-1.given i).fits) (λ i. (c.slice_known-1.given i).fits) c.standing-found.ensures) e.in_default.is o.open_both-opened.ensures c.in-Full.is
+pub returns : goal.returns
+returns c =
+    let b = c.begin-work.ensures in
+    let answer = c.answer.ensures in
+    rw answer
+    (call_told (lent (goal.at.returns c).After-standing) c.in_default.is b.begun b.room_after b.budget c.check_cards-checked.ensures.tells (search rules))

@@ -1,65 +1,37 @@
 -- `check_letter` derives both places and looks the two that are reached up in the list, as the definition does by a single letter.
 use native.Mathlib.Omega.{arith}
-use Rattle.checking.specs.Told.{mapped_list}
-use Rattle.checking.proofs.Laws.Rooms.{reached_fit, both_spent, letter_passes, letter_misses, one_spent, letter_stops}
+use Rattle.std.proofs.lemmas.Result.{err_from_is_err_and}
+use Rattle.checking.specs.Listed.{mapped_list}
+use Rattle.checking.proofs.Laws.Rooms.{reached_fit, letter_passes, letter_misses, letter_stops}
 use Rattle.checking.proofs.checking.check_letter.Goals as goal
 
-pub overflow_sub-visits : goal.overflow_sub-visits
-overflow_sub-visits c =
-    let d = c in
-    let s = d in
-    let a = s.args in
-    both_spent s.requires.good_store (mapped_list a.map.now a.list.now) a.n a.x a.y a.letter (omega arith) s.requires.x_lt_places a.budget a.given
-    d.derive_both-both.ensures c.in-At.is s.requires.budget_le_given
+pub returns-in_err-next_x-clause-goes : goal.returns-in_err-next_x-clause-goes
+returns-in_err-next_x-clause-goes c =
+    let a = c.args in
+    let told = err_from_is_err_and c.from_residual.result c.from_residual.ensures.1 in
+    rw (told.1, told.2)
+    (letter_stops a.x a.y a.letter (omega arith) c.requires c.derive_both.ensures.comes (mapped_list a.listed.map.now a.listed.list.now) a.n c.in_err-next_x.was)
 
 pub overflow_cast-next_x : goal.overflow_cast-next_x
 overflow_cast-next_x c =
-    let d = c in
-    let s = d in
-    let fit = reached_fit s.requires.good_store _ (omega arith) _ _ (omega arith) (omega arith) _ d.derive_both-both.ensures c.in-At.is in
-    let x_Fits = fit.0 in
-    let y-fits = fit.1 in
-    record { fits = omega arith }
+    let a = c.args in
+    let fit = reached_fit a.x a.y a.letter (omega arith) c.requires c.derive_both.ensures.comes c.in_ok-next_x.was in
+    record { fits = fit.0 }
 
 pub overflow_cast-next_y : goal.overflow_cast-next_y
 overflow_cast-next_y c =
-    let d = c in
-    let s = d in
-    let fit = reached_fit s.requires.good_store _ (omega arith) _ _ (omega arith) (omega arith) _ d.derive_both-both.ensures c.in-At.is in
-    let x_Fits = fit.0 in
-    let y-fits = fit.1 in
-    record { fits = omega arith }
+    let a = c.args in
+    let fit = reached_fit a.x a.y a.letter (omega arith) c.requires c.derive_both.ensures.comes c.in_ok-next_x.was in
+    record { fits = fit.1 }
 
-pub overflow_sub-visits-in-Stopped : goal.overflow_sub-visits-in-Stopped
-overflow_sub-visits-in-Stopped c =
-    let d = c in
-    let s = d in
-    let a = s.args in
-    one_spent s.requires.good_store (mapped_list a.map.now a.list.now) a.n a.x a.y a.letter (omega arith) s.requires.x_lt_places a.budget a.given
-    d.derive_both-both.ensures c.in-Stopped.is s.requires.budget_le_given
+pub returns-then-not-stands_listed-clause-goes : goal.returns-then-not-stands_listed-clause-goes
+returns-then-not-stands_listed-clause-goes c =
+    let a = c.args in
+    letter_misses a.x a.y a.letter (omega arith) c.requires c.derive_both.ensures.comes (mapped_list a.listed.map.now a.listed.list.now) a.n c.in_ok-next_x.was
+    c.stands_listed.ensures c.if-not-stands_listed.true
 
-pub returns-then-stands_listed : goal.returns-then-stands_listed
-returns-then-stands_listed c =
-    let d = c in
-    let s = d in
-    let a = s.args in
-    letter_passes s.requires.good_store (mapped_list a.map.now a.list.now) a.n a.x a.y a.letter (omega arith) s.requires.x_lt_places a.budget a.given
-    d.derive_both-both.ensures c.in-At.is
-    c.stands_listed.ensures c.if-stands_listed.true
-
-pub returns-else-stands_listed : goal.returns-else-stands_listed
-returns-else-stands_listed c =
-    let d = c in
-    let s = d in
-    let a = s.args in
-    letter_misses s.requires.good_store (mapped_list a.map.now a.list.now) a.n a.x a.y a.letter (omega arith) s.requires.x_lt_places a.budget a.given
-    d.derive_both-both.ensures c.in-At.is
-    c.stands_listed.ensures c.if-stands_listed.false
-
-pub returns-in-Stopped : goal.returns-in-Stopped
-returns-in-Stopped c =
-    let d = c in
-    let s = d in
-    let a = s.args in
-    letter_stops s.requires.good_store (mapped_list a.map.now a.list.now) a.n a.x a.y a.letter (omega arith) s.requires.x_lt_places a.budget a.given
-    d.derive_both-both.ensures c.in-Stopped.is
+pub returns-clause-goes : goal.returns-clause-goes
+returns-clause-goes c =
+    let a = c.args in
+    letter_passes a.x a.y a.letter (omega arith) c.requires c.derive_both.ensures.comes (mapped_list a.listed.map.now a.listed.list.now) a.n c.in_ok-next_x.was
+    c.stands_listed.ensures c.if-not-stands_listed.false

@@ -1,51 +1,41 @@
 -- `check_pairs` answers as the definition does: with the pairs before n passed, the store that stands in the room is the one from which the
--- definition goes on with the rest. The measure is the number of pairs that are left.
+-- definition goes on with the rest.
 use native.Mathlib.Omega.{arith}
-use mathlib.Core.Path.{◌∙◌}
-use Rattle.checking.specs.Told.{mapped_list}
+use mathlib.Core.Path.{refl, ◌∙◌}
+use Rattle.std.proofs.lemmas.Result.{err_from_is_err_and}
+use Rattle.checking.specs.Listed.{mapped_list}
 use Rattle.checking.proofs.Laws.Listing.{length_listed}
-use Rattle.checking.proofs.Laws.Rooms.{room_as_long, good_now, mapped_now, pairs_first, pairs_done, pair_passed, pair_ended}
+use Rattle.checking.proofs.Laws.Rooms.{inside_now, pairs_first, pairs_done, pair_passed, pair_ended}
 use Rattle.checking.proofs.checking.check_pairs.Goals as goal
 
 pub loop-n-init : goal.loop-n-init
 loop-n-init c =
-    let s = c in
-    let a = s.args in
-    pairs_first a.letters.now (mapped_list a.map.now a.list.now) a.room.now a.places a.budget s.requires.good_store
+    let a = c.args in
+    (refl, pairs_first a.letters.now (mapped_list a.listed.map.now a.listed.list.now) a.work.now)
 
-pub check_pair-passed-requires : goal.check_pair-passed-requires
-check_pair-passed-requires c =
-    let s = c in
-    let u = c.loop-n.invariant.stood in
-    let l = u.leaves.spent in
-    record { good_store = good_now u; mapped_inside = mapped_now u s.requires.mapped_inside; n_bound = omega arith; budget_le_given = omega arith }
+pub check_pair-requires : goal.check_pair-requires
+check_pair-requires c = record { inside = inside_now c.loop-n.invariant.1.leaves c.requires; n_bound = omega arith }
 
-pub shape_of-room-in-Ends : goal.shape_of-room-in-Ends
-shape_of-room-in-Ends c =
-    let l = c.loop-n in
-    c.room-1.given ∙ room_as_long l.invariant.stood
-
-pub returns-in-Ends : goal.returns-in-Ends
-returns-in-Ends c =
-    let l = c in
-    let a = l.args in
-    pair_ended a.letters.now (mapped_list a.map.now a.list.now) l.loop-n.invariant (omega (arith, length_listed a.map.now a.list.now))
-    c.check_pair-passed.ensures c.in-Ends.is
+pub returns-in_err-check_pair-clause-ends : goal.returns-in_err-check_pair-clause-ends
+returns-in_err-check_pair-clause-ends c =
+    let a = c.args in
+    let told = err_from_is_err_and c.from_residual.result c.from_residual.ensures.1 in
+    rw (told.1, told.2)
+    (pair_ended a.letters.now (mapped_list a.listed.map.now a.listed.list.now) c.loop-n.invariant.1
+    (omega (arith, length_listed a.listed.map.now a.listed.list.now))
+    c.check_pair.ensures.goes c.in_err-check_pair.was)
 
 pub loop-n-preserved : goal.loop-n-preserved
 loop-n-preserved c =
-    let l = c in
-    let a = l.args in
-    pair_passed a.letters.now (mapped_list a.map.now a.list.now) l.loop-n.invariant (omega (arith, length_listed a.map.now a.list.now))
-    c.check_pair-passed.ensures c.in-Passes.is
+    let a = c.args in (
+      c.check_pair.ensures.same_room ∙ c.loop-n.invariant.0,
+      pair_passed a.letters.now (mapped_list a.listed.map.now a.listed.list.now) c.loop-n.invariant.1
+          (omega (arith, length_listed a.listed.map.now a.listed.list.now))
+          c.check_pair.ensures.goes c.in_ok-check_pair.was,
+    )
 
-pub overflow_sub-visits : goal.overflow_sub-visits
-overflow_sub-visits c = c.loop-n.invariant.stood.leaves.spent
-
-pub shape_of-room : goal.shape_of-room
-shape_of-room c = room_as_long c.loop-n.invariant.stood
-
-pub returns : goal.returns
-returns c =
+pub returns-clause-ends : goal.returns-clause-ends
+returns-clause-ends c =
     let a = c.args in
-    pairs_done a.letters.now (mapped_list a.map.now a.list.now) c.loop-n.invariant (omega (arith, length_listed a.map.now a.list.now))
+    pairs_done a.letters.now (mapped_list a.listed.map.now a.listed.list.now) c.loop-n.invariant.1
+    (omega (arith, length_listed a.listed.map.now a.listed.list.now))

@@ -1,5 +1,5 @@
--- `all_named` goes through the pairs: one that names no record is one too many, and where none was found every pair is named. The measure is the
--- number of pairs that are left.
+-- `all_named` goes through the pairs: one that names no record is one too many, and where none was found every pair is named.
+
 use Prim.Native.Nat.{ℕ, ◌<◌}
 use native.Mathlib.Omega.{arith}
 use mathlib.Core.Bool.{Bool, true, false, ◌&&◌, false≢true}
@@ -48,7 +48,7 @@ module _ (list : List ℕ) (count : ℕ) where
       )))
 
 pub loop-at-init : goal.loop-at-init
-loop-at-init c = (omega arith, λ k l. absurd (omega arith))
+loop-at-init c = λ k l. absurd (omega arith)
 
 pub returns-then-not-named : goal.returns-then-not-named
 returns-then-not-named c =
@@ -59,10 +59,10 @@ returns-then-not-named c =
 pub loop-at-preserved : goal.loop-at-preserved
 loop-at-preserved c =
     let l = c.loop-at in
-    (omega arith, below_more _ l.at l.invariant.1 (sym c.named.ensures ∙ c.if-not-named.false))
+    below_more _ l.at l.invariant (sym c.named.ensures ∙ c.if-not-named.false)
 
 pub returns : goal.returns
 returns c =
     let a = c.args in
     let l = c.loop-at in
-    told_true a.list.now a.count (λ k m. l.invariant.1 k (omega arith))
+    told_true a.list.now a.count (λ k m. l.invariant k (omega arith))

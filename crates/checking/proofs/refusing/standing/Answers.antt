@@ -2,10 +2,14 @@
 use Prim.Native.Nat.{ℕ, ◌/◌}
 use mathlib.Core.Bool.{true, false}
 use mathlib.Core.List.{List}
-use mathlib.Core.Path.{◌≡◌, sym, ◌∙◌}
+use mathlib.Core.Path.{◌≡◌, sym, ◌∙◌, ap}
 use lib.ListN.{length}
-use Rattle.refusals.specs.Order.{Standing}
-use Rattle.refusals.specs.Order.{Good, Refused}
+use Rattle.std.proofs.lemmas.Result.{err_from_is_err_and}
+use Rattle.std.specs.declared.result.Result.{Result}
+use Rattle.std.specs.declared.result.Result.TheVariants.{Ok}
+use Rattle.refusals.specs.declared.refusal.Refusal.{Refusal}
+use Rattle.refusals.specs.Told.{standing_told}
+use Rattle.refusals.specs.Order.{Standing, Good, Refused}
 use Rattle.refusals.specs.Numbers.{work_room_size, pair_room_size, pair_names_no_record}
 use Rattle.cards.specs.Examine.{pattern_card, proof_card}
 use Rattle.store.specs.Room.{wrong_room}
@@ -54,61 +58,82 @@ module _ {left right proof : List ℕ} (list : List ℕ) (work : ℕ) (cards : C
   unfolding check_standing
   told_good e f g = rw (cards.left_good, cards.right_good, cards.proof_good, e, f, g)
 
--- What is known once all three cards were found good.
-cards_good : {left right proof : List ℕ} {first second third : Standing} → first ≡ pattern_card left → first ≡ Good → second ≡ pattern_card right
-    → second ≡ Good → third ≡ proof_card proof → third ≡ Good → Cards left right proof
-cards_good e f g h i j = record { left_good = sym e ∙ f; right_good = sym g ∙ h; proof_good = sym i ∙ j }
+-- What is known of a card that was found good.
+good : {s : Standing} {found : Result (Unit {0}) Refusal} {u : Unit {0}} → standing_told found ≡ s → found ≡ Ok u → s ≡ Good
+good e f = sym e ∙ ap standing_told f
 
-pub returns-in-Refused : goal.returns-in-Refused
-returns-in-Refused c =
+pub returns-in_err-examine_pattern : goal.returns-in_err-examine_pattern
+returns-in_err-examine_pattern c =
     let a = c.args in
-    told_left a.left.now a.right.now a.proof.now a.list.now a.work
-    (sym c.examine_pattern-first.ensures ∙ c.in-Refused.is)
+    let told = err_from_is_err_and c.from_residual.result c.from_residual.ensures.1 in
+    rw (told.1, told.2)
+    (told_left a.left.now a.right.now a.proof.now a.list.now a.work
+    (sym c.examine_pattern.ensures ∙ ap standing_told c.in_err-examine_pattern.was))
 
-pub returns-in-Refused-second : goal.returns-in-Refused-second
-returns-in-Refused-second c =
+pub returns-in_err-examine_pattern-2 : goal.returns-in_err-examine_pattern-2
+returns-in_err-examine_pattern-2 c =
     let a = c.args in
-    told_right a.left.now a.right.now a.proof.now a.list.now a.work
-    (sym c.examine_pattern-first.ensures ∙ c.in_default.is)
-    (sym c.examine_pattern-second.ensures ∙ c.in-Refused-second.is)
+    let told = err_from_is_err_and c.from_residual-in_err-examine_pattern-2.result c.from_residual-in_err-examine_pattern-2.ensures.1 in
+    rw (told.1, told.2)
+    (told_right a.left.now a.right.now a.proof.now a.list.now a.work
+    (good c.examine_pattern.ensures c.in_ok-examine_pattern.was)
+    (sym c.examine_pattern-2.ensures ∙ ap standing_told c.in_err-examine_pattern-2.was))
 
-pub returns-in-Refused-third : goal.returns-in-Refused-third
-returns-in-Refused-third c =
+pub returns-in_err-examine_proof : goal.returns-in_err-examine_proof
+returns-in_err-examine_proof c =
     let a = c.args in
-    told_proof a.left.now a.right.now a.proof.now a.list.now a.work
-    (sym c.examine_pattern-first.ensures
-    ∙ c.in_default.is)
-    (sym c.examine_pattern-second.ensures ∙ c.in_default-second.is)
-    (sym c.examine_proof-third.ensures ∙ c.in-Refused-third.is)
+    let told = err_from_is_err_and c.from_residual-in_err-examine_proof.result c.from_residual-in_err-examine_proof.ensures.1 in
+    rw (told.1, told.2)
+    (told_proof a.left.now a.right.now a.proof.now a.list.now a.work
+    (good c.examine_pattern.ensures c.in_ok-examine_pattern.was)
+    (good c.examine_pattern-2.ensures c.in_ok-examine_pattern-2.was)
+    (sym c.examine_proof.ensures ∙ ap standing_told c.in_err-examine_proof.was))
 
 pub returns-then-wrong_room : goal.returns-then-wrong_room
 returns-then-wrong_room c =
-    let t = c in
-    let a = t.args in
-    told_room a.list.now a.work (cards_good c.examine_pattern-first.ensures c.in_default.is c.examine_pattern-second.ensures c.in_default-second.is c.examine_proof-third.ensures c.in_default-third.is) (sym c.wrong_room.ensures ∙ c.if-wrong_room.true)
+    let a = c.args in
+    told_room a.list.now a.work
+    (record {
+      left_good = good c.examine_pattern.ensures c.in_ok-examine_pattern.was;
+      right_good = good c.examine_pattern-2.ensures c.in_ok-examine_pattern-2.was;
+      proof_good = good c.examine_proof.ensures c.in_ok-examine_proof.was;
+    })
+    (sym c.wrong_room.ensures ∙ c.if-wrong_room.true)
 
 pub returns-then-wrong_pair_room : goal.returns-then-wrong_pair_room
 returns-then-wrong_pair_room c =
-    let t = c in
-    let a = t.args in
-    told_list a.list.now a.work (cards_good c.examine_pattern-first.ensures c.in_default.is c.examine_pattern-second.ensures c.in_default-second.is c.examine_proof-third.ensures c.in_default-third.is)
+    let a = c.args in
+    told_list a.list.now a.work
+    (record {
+      left_good = good c.examine_pattern.ensures c.in_ok-examine_pattern.was;
+      right_good = good c.examine_pattern-2.ensures c.in_ok-examine_pattern-2.was;
+      proof_good = good c.examine_proof.ensures c.in_ok-examine_proof.was;
+    })
     (sym c.wrong_room.ensures ∙ c.if-wrong_room.false)
     (sym c.wrong_pair_room.ensures ∙ c.if-wrong_pair_room.true)
 
 pub returns-then-not-all_named : goal.returns-then-not-all_named
 returns-then-not-all_named c =
-    let t = c in
-    let a = t.args in
-    told_unnamed a.list.now a.work (cards_good c.examine_pattern-first.ensures c.in_default.is c.examine_pattern-second.ensures c.in_default-second.is c.examine_proof-third.ensures c.in_default-third.is)
+    let a = c.args in
+    told_unnamed a.list.now a.work
+    (record {
+      left_good = good c.examine_pattern.ensures c.in_ok-examine_pattern.was;
+      right_good = good c.examine_pattern-2.ensures c.in_ok-examine_pattern-2.was;
+      proof_good = good c.examine_proof.ensures c.in_ok-examine_proof.was;
+    })
     (sym c.wrong_room.ensures ∙ c.if-wrong_room.false)
     (sym c.wrong_pair_room.ensures ∙ c.if-wrong_pair_room.false)
     (sym c.all_named.ensures ∙ c.if-not-all_named.true)
 
 pub returns : goal.returns
 returns c =
-    let t = c in
-    let a = t.args in
-    told_good a.list.now a.work (cards_good c.examine_pattern-first.ensures c.in_default.is c.examine_pattern-second.ensures c.in_default-second.is c.examine_proof-third.ensures c.in_default-third.is)
+    let a = c.args in
+    told_good a.list.now a.work
+    (record {
+      left_good = good c.examine_pattern.ensures c.in_ok-examine_pattern.was;
+      right_good = good c.examine_pattern-2.ensures c.in_ok-examine_pattern-2.was;
+      proof_good = good c.examine_proof.ensures c.in_ok-examine_proof.was;
+    })
     (sym c.wrong_room.ensures ∙ c.if-wrong_room.false)
     (sym c.wrong_pair_room.ensures ∙ c.if-wrong_pair_room.false)
     (sym c.all_named.ensures ∙ c.if-not-all_named.false)

@@ -1,45 +1,40 @@
 -- `stands_listed` compares the two places of each mapped pair as one number, which tells places apart: a pair with the number wanted stands in the
--- list, and where no pair passed has it none does. The measure is the number of pairs that are left.
+-- list, and where no pair passed has it none does.
 use Prim.Native.Nat.{ℕ, ◌+◌, ◌*◌, ◌<◌}
 use native.Mathlib.Omega.{arith}
 use mathlib.Core.Bool.{true, false}
 use mathlib.Core.List.{List}
 use mathlib.Core.Path.{◌≡◌, sym, ◌∙◌, ap}
-use lib.ListN.{get_or}
 use borrow.Author.Count.{below_more}
 use Rattle.pairs.specs.declared.pair.Pair.{Pair}
-use Rattle.pairs.specs.Pair.{places_of_pair, pair_record, pair_at, stands_in}
+use Rattle.pairs.specs.Pair.{places_of_pair, pair_at, stands_in}
 use Rattle.pairs.specs.Room.{pairs_of}
-use Rattle.checking.specs.Told.{mapped_list}
-use Rattle.checking.proofs.Laws.Listing.{length_listed, listed_pair_at, number_found, number_missing}
-use Rattle.checking.proofs.listing.stands_listed.Goals as goal
+use Rattle.checking.specs.Listed.{mapped_list}
+use Rattle.checking.proofs.Laws.Listing.{length_listed, number_found, number_missing}
+use Rattle.checking.proofs.listing.Listed.stands_listed.Goals as goal
 
 module _ (list map : List ℕ) (x y : ℕ) where
   abbrev pairs : List Pair
   pairs = mapped_list map list
 
-  told-true : ((i : ℕ) → get_or map i 0 < 65536) → x < 65536 → (n : ℕ) → n < pairs_of list → {p : Pair} → p ≡ pair_at pairs n
+  told-true : {p : Pair} → p.left < 65536 → x < 65536 → (n : ℕ) → n < pairs_of list → p ≡ pair_at pairs n
       → places_of_pair p ≡ x + 65536 * y → true ≡ stands_in pairs x y
   told-true fits x_Fits n l is e =
       number_found pairs x y n (omega (arith, length_listed map list))
-      (rw (listed_pair_at map list n l) (fits (pair_record list n).left)) x_Fits
+      (rw (sym is) fits) x_Fits
       (ap places_of_pair (sym is) ∙ e)
 
   told-false : ((n : ℕ) → n < pairs_of list → places_of_pair (pair_at pairs n) ≡ x + 65536 * y → ⊥) → false ≡ stands_in pairs x y
   told-false none = number_missing pairs x y (λ n l. none n (omega (arith, length_listed map list)))
 
 pub loop-at-init : goal.loop-at-init
-loop-at-init c = (omega arith, λ k l. absurd (omega arith))
-
-pub mapped_pair-p-requires : goal.mapped_pair-p-requires
-mapped_pair-p-requires c = record { named = c.requires; n_bound = omega arith }
+loop-at-init c = λ k l. absurd (omega arith)
 
 pub returns-then-both-wanted : goal.returns-then-both-wanted
 returns-then-both-wanted c =
-    let s = c in
-    let a = s.args in
-    told-true a.list.now a.map.now a.x a.y
-    (λ i. (c.shared_slice_known-2-1.given i).fits)
+    let a = c.args in
+    told-true a.self.list.now a.self.map.now a.x a.y
+    (omega arith)
     (omega arith)
     c.loop-at.at
     (omega arith)
@@ -48,15 +43,13 @@ returns-then-both-wanted c =
 
 pub loop-at-preserved : goal.loop-at-preserved
 loop-at-preserved c =
-    let l = c.loop-at in (
-      omega arith,
-      below_more _ l.at l.invariant.1
-          (λ e. c.if-both-wanted.false (c.both.ensures ∙ ap places_of_pair c.mapped_pair-p.ensures ∙ e)),
-    )
+    let l = c.loop-at in
+    below_more _ l.at l.invariant
+    (λ e. c.if-both-wanted.false (c.both.ensures ∙ ap places_of_pair c.mapped_pair-p.ensures ∙ e))
 
 pub returns : goal.returns
 returns c =
     let a = c.args in
     let l = c.loop-at in
-    told-false a.list.now a.map.now a.x a.y
-    (λ k m e. l.invariant.1 k (omega arith) (e ∙ sym c.both-wanted.ensures))
+    told-false a.self.list.now a.self.map.now a.x a.y
+    (λ k m e. l.invariant k (omega arith) (e ∙ sym c.both-wanted.ensures))
