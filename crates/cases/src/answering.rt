@@ -35,7 +35,7 @@ fn answer_line<W: Write>(output: &mut W, line: Option<&[u8]>) -> io::Result<()> 
 
 // Writes the answer to a line, and tells whether the line is of some form.
 fn answer<W: Write>(output: &mut W, line: &[u8]) -> io::Result<bool> {
-    // no heap: what the line spells has room for the longest
+    // the array stays: no heap
     let mut room = [0; SPELLED];
     match read(line, &mut room) {
         Some(Asked::Match(call)) => call.answer(output)?,

@@ -74,8 +74,8 @@ impl<'a> Comparing<'a> {
         let work = self.work.lay(&mut work_space);
         let pairs = self.pairs.lay(&mut pair_space);
         let word = self.word.lay(&mut word_space);
-        let told = compare(self.left, self.right, work, pairs, word, self.budget);
-        let told = show(output, told, word)?;
+        let answer = compare(self.left, self.right, work, pairs, word, self.budget);
+        let told = show(output, answer, word)?;
         number(output, b" pairs=", told.pairs as u64)?;
         show_counts(output, told.counts)?;
         laid(output, b" work=", work, told.counts.places)?;
@@ -88,9 +88,9 @@ impl<'a> Comparing<'a> {
 }
 
 // Writes the answer with its reason or its word, and tells what was told of the rooms.
-fn show<W: Write>(output: &mut W, told: Comparison, room: &[u8]) -> io::Result<Told> {
+fn show<W: Write>(output: &mut W, answer: Comparison, room: &[u8]) -> io::Result<Told> {
     let mut written = 0;
-    let (pairs, places, visits) = match told {
+    let (pairs, places, visits) = match answer {
         Comparison::Same(pairs, places, visits) => {
             words(output, b"answer=same")?;
             (pairs, places, visits)

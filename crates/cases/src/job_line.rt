@@ -22,6 +22,7 @@ impl<'a> Job<'a> {
 
     // Writes the text of the job's answer.
     pub fn answer<W: Write>(&self, output: &mut W) -> io::Result<()> {
+        // the array stays, and `length` beside it: no heap
         let mut out = [0; MOST_ANSWER];
         let length = jobtext::answer(self.text, &mut out);
         show_bytes(output, b"text=", part(&out, 0, length))

@@ -8,7 +8,7 @@ use crate::rooms::LARGEST_ROOM;
 use refusals::limits::MOST_BUDGET;
 use text::reading::Reader;
 
-// The bytes that the longest line can spell.
+// The bytes that the longest line can spell. They have an array of a fixed size, since there is to be no heap.
 pub const SPELLED: usize = 200000;
 
 // A line as far as it is read, and what is left of the room for the bytes that it spells.

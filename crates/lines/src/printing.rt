@@ -75,7 +75,8 @@ fn block<W: Write>(output: &mut W, shown: &[u8]) -> io::Result<()>
     ensures { OnOk result
         (Appends (W.contents output.old) (W.contents output.new) (hex shown.now)) }
 {
-    let mut digits = [0u8; 2 * BLOCK];
+    // the array stays: no heap
+    let mut digits = [0; 2 * BLOCK];
     let mut writer = Writer::new(&mut digits);
     writer.hex(shown);
     let length = writer.at;

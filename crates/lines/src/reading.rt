@@ -13,17 +13,17 @@ pub const LONGEST: usize = 400000;
 // The bytes that are read at once.
 pub const CHUNK: usize = 65536;
 
-// A line as far as it came: its bytes, no more than the longest line has, and how many there were. An array with a length beside it, since
-// there is to be no heap.
+// A line as far as it came: its bytes, no more than the longest line has, and how many there were. The array with a length beside it stays,
+// since there is to be no heap.
 #[derive(Drop)]
-pub struct Line {
+struct Line {
     bytes: [u8; LONGEST],
     length: usize,
 }
 
 impl Line {
     // A line of which nothing came.
-    pub fn new() -> Self
+    fn new() -> Self
         ensures { Holds LONGEST result [] }
     {
         Line {
@@ -33,7 +33,7 @@ impl Line {
     }
 
     // The line, if it is not too long.
-    pub fn text(&self) -> Option<&[u8]>
+    fn text(&self) -> Option<&[u8]>
         ensures { (came : List ℕ) → Holds LONGEST self.now came → GivenAs LONGEST came result }
     {
         self.bytes.get(..self.length)
@@ -67,6 +67,7 @@ pub fn each_line<R: Read, F: FnMut(Option<&[u8]>) -> io::Result<()>>(
     ensures { OnOk result (IfSome (R.remaining input.old) (λ text.
         length text < usize.MAX → (last : F) × EachAnswered LONGEST F.step answer (lines_of text []) last)) }
 {
+    // the array stays, and `count` beside it: no heap
     let mut chunk = [0; CHUNK];
     let mut line = Line::new();
     for _ in 0..u64::MAX {

@@ -3,7 +3,7 @@ ghost use Rattle.std.specs.Prelude.{◌≤◌, ◌≡◌, length, Decides};
 ghost use Rattle.lines.specs.Lent.{taken_of};
 ghost use Rattle.lines.specs.declared.rooms.TheConstants.{LARGEST_ROOM};
 
-// The bytes of the largest room.
+// The bytes of the largest room. Each room is the start of an array of that size, since there is to be no heap.
 pub const LARGEST_ROOM: usize = 65536;
 
 // The bytes of a place and of a pair.
