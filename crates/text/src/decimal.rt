@@ -6,7 +6,7 @@ pub fn value_of(digit: u8) -> Option<u32>
     ensures { DigitOf digit result }
 {
     match digit {
-        b'0'..=b'9' => Some((digit - b'0') as u32),
+        b'0'..=b'9' => Some(u32::from(digit - b'0')),
         _ => None,
     }
 }
@@ -30,8 +30,8 @@ pub fn with_digit(value: u32, digit: u8, most: u32) -> Option<u32>
     if value == 0 {
         return None;
     }
-    let more = 10 * (value as u64) + (last as u64);
-    if (most as u64) < more {
+    let more = 10 * u64::from(value) + u64::from(last);
+    if u64::from(most) < more {
         return None;
     }
     Some(more as u32)

@@ -1,4 +1,4 @@
-// Lines with names, each ended by a line feed: bytes in hex, and numbers.
+// Lines with names, each ended by a line feed: bytes in hex, and numbers. Where no such line stands there, the reader stands somewhere in what does.
 ghost use Rattle.std.specs.Prelude.{◌≡◌, ◌*◌, ◌≤◌, length};
 ghost use Rattle.text.specs.Told.{ReadsHexLine, ReadsNumberLine};
 
@@ -7,7 +7,7 @@ use crate::reading::Reader;
 impl Reader<'_> {
     // A line of bytes in hex with this name, and how many they are. They go to the start of the room, which is long enough for every line of the text.
     pub fn hex_line(&mut self, name: &[u8], room: &mut [u8]) -> Option<usize>
-        requires text_len_bound { length self.old.text.now ≤ 2 * length room.old }
+        requires room_long_enough { length self.old.text.now ≤ 2 * length room.old }
         ensures same_text { self.new.text.now ≡ self.old.text.now }
         ensures reads { ReadsHexLine self.old.text.now self.old.at name.now result self.new.at room.new }
     {

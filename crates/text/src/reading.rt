@@ -39,7 +39,7 @@ impl<'a> Reader<'a> {
         self.at == self.text.len()
     }
 
-    // A piece of text, as it stands.
+    // A piece of text, as it stands. Where it does not stand there, the reader stays.
     pub fn pass(&mut self, piece: &[u8]) -> Option<()>
         ensures same_text { self.new.text.now ≡ self.old.text.now }
         ensures passes { Passes self.old.text.now self.old.at piece.now result self.new.at }
@@ -51,7 +51,7 @@ impl<'a> Reader<'a> {
         Some(())
     }
 
-    // One byte in hex.
+    // One byte in hex. Where none stands there, the reader stays.
     pub fn byte(&mut self) -> Option<u8>
         ensures same_text { self.new.text.now ≡ self.old.text.now }
         ensures reads { ReadsByte self.old.text.now self.old.at result self.new.at }
@@ -79,7 +79,7 @@ impl<'a> Reader<'a> {
         room.len()
     }
 
-    // One decimal digit.
+    // One decimal digit. Where none stands there, the reader stays.
     pub fn digit(&mut self) -> Option<u8>
         ensures same_text { self.new.text.now ≡ self.old.text.now }
         ensures reads { ReadsDigit self.old.text.now self.old.at result self.new.at }
@@ -90,7 +90,8 @@ impl<'a> Reader<'a> {
         Some(digit)
     }
 
-    // A number in decimal, up to the first byte that is no digit.
+    // A number in decimal, up to the first byte that is no digit. Where there is none that is not too large, the reader stands behind some of its
+    // digits: a caller that tries something else keeps a copy.
     pub fn number(&mut self, most: u32) -> Option<u32>
         ensures same_text { self.new.text.now ≡ self.old.text.now }
         ensures reads { ReadsNumber self.old.text.now self.old.at most result self.new.at }

@@ -1,45 +1,55 @@
 -- `read_job` passes one of the two first lines and reads the others behind it; the two differ, so no text is of both forms.
+use Rattle.std.proofs.Common.{sym, ◌∙◌}
 use Rattle.text.specs.Ascii.{ascii}
-use Rattle.text.specs.Laws.Reading.{passed_to}
+use Rattle.text.specs.Laws.Reading.{passed_to, passed_some, passed_none, stays}
 use Rattle.jobform.specs.Laws.Job.{lines_are, a_comparison, a_match, no_comparison, no_match, no_job}
 use Rattle.jobform.proofs.read_job.Goals as goal
 
-pub read_lines-lines-requires : goal.read_lines-lines-requires
+pub returns-in_err-lines : goal.returns-in_err-lines
 unfolding ascii
-read_lines-lines-requires c =
-    let p = c in
-    record { from_in_bounds = (passed_to p.pass-comparing.ensures p.in-To.is).inside; text_len_bound = p.requires.text_len_bound; text_len_bound_2 = p.requires.text_len_bound_2 }
+returns-in_err-lines c =
+    let n = c.new-reader.ensures in
+    let f = c.pass.ensures in
+    let p = passed_some f.passes (sym c.is_some.ensures ∙ c.if-is_some.true) in
+    let r = c.in_err-lines.ensures in
+    rw c.from_residual.ensures (no_comparison (rw (n.text, n.place) at p) (rw (f.same_text, n.text) at r))
 
-pub returns-in-Read : goal.returns-in-Read
+pub returns-then-is_some : goal.returns-then-is_some
 unfolding ascii
-returns-in-Read c =
-    let p = c in
-    a_comparison (passed_to p.pass-comparing.ensures p.in-To.is) (lines_are c.read_lines-lines.ensures c.in-Read.is)
+returns-then-is_some c =
+    let n = c.new-reader.ensures in
+    let f = c.pass.ensures in
+    let p = passed_some f.passes (sym c.is_some.ensures ∙ c.if-is_some.true) in
+    let r = c.in_ok-lines.ensures in
+    a_comparison (rw (n.text, n.place) at p) (lines_are (rw (f.same_text, n.text) at r))
 
-pub returns-in-Bad : goal.returns-in-Bad
+pub returns-in_err-pass : goal.returns-in_err-pass
 unfolding ascii
-returns-in-Bad c =
-    let p = c in
-    no_comparison (passed_to p.pass-comparing.ensures p.in-To.is) c.read_lines-lines.ensures c.in-Bad.is
+returns-in_err-pass c =
+    let n = c.new-reader.ensures in
+    let f = c.pass.ensures in
+    let p = passed_none f.passes (sym c.is_some.ensures ∙ c.if-is_some.false) in
+    let r = c.in_err-pass.ensures.passes in
+    rw c.from_residual-in_err-pass.ensures (no_job (rw (n.text, n.place) at p) (rw (f.same_text, n.text, stays p, n.place) at r))
 
-pub read_lines-lines-requires-in-To-matching : goal.read_lines-lines-requires-in-To-matching
+pub returns-in_err-lines-2 : goal.returns-in_err-lines-2
 unfolding ascii
-read_lines-lines-requires-in-To-matching c =
-    let p = c in
-    record { from_in_bounds = (passed_to p.pass-matching.ensures p.in-To-matching.is).inside; text_len_bound = p.requires.text_len_bound; text_len_bound_2 = p.requires.text_len_bound_2 }
-
-pub returns-in-Read-lines : goal.returns-in-Read-lines
-unfolding ascii
-returns-in-Read-lines c =
-    let p = c in
-    a_match (passed_to p.pass-matching.ensures p.in-To-matching.is) (lines_are c.read_lines-lines-in-To-matching.ensures c.in-Read-lines.is)
-
-pub returns-in-Bad-lines : goal.returns-in-Bad-lines
-unfolding ascii
-returns-in-Bad-lines c =
-    let p = c in
-    no_match (passed_to p.pass-matching.ensures p.in-To-matching.is) c.read_lines-lines-in-To-matching.ensures c.in-Bad-lines.is
+returns-in_err-lines-2 c =
+    let n = c.new-reader.ensures in
+    let f = c.pass.ensures in
+    let g = c.in_ok-pass.ensures in
+    let s = stays (passed_none f.passes (sym c.is_some.ensures ∙ c.if-is_some.false)) in
+    let p = passed_to g.passes in
+    let r = c.in_err-lines-2.ensures in
+    rw c.from_residual-in_err-lines-2.ensures (no_match (rw (f.same_text, n.text, s, n.place) at p) (rw (g.same_text, f.same_text, n.text) at r))
 
 pub returns : goal.returns
 unfolding ascii
-returns c = no_job c.pass-comparing.ensures c.in_default.is c.pass-matching.ensures c.in_default-matching.is
+returns c =
+    let n = c.new-reader.ensures in
+    let f = c.pass.ensures in
+    let g = c.in_ok-pass.ensures in
+    let s = stays (passed_none f.passes (sym c.is_some.ensures ∙ c.if-is_some.false)) in
+    let p = passed_to g.passes in
+    let r = c.in_ok-lines-2.ensures in
+    a_match (rw (f.same_text, n.text, s, n.place) at p) (lines_are (rw (g.same_text, f.same_text, n.text) at r))

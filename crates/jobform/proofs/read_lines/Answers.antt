@@ -1,55 +1,55 @@
 -- `read_lines` reads one line behind the other. Each line has one reading, so where a line or the end of the text is missing, no lines of this
 -- form stand there at all.
+use native.Mathlib.Omega.{arith}
+use Rattle.std.proofs.Common.{length, ap, sym, ◌∙◌, eqb-true}
+use Rattle.std.proofs.lemmas.Bool.{eqb-false}
 use Rattle.text.specs.Ascii.{ascii}
 use Rattle.text.specs.Laws.Lines.{hex_is, number_is}
 use Rattle.jobform.specs.Laws.Job.{no_first_line, no_second_line, no_budget_line, more_behind, all_lines}
 use Rattle.jobform.proofs.read_lines.Goals as goal
 
-pub returns-in_default : goal.returns-in_default
+pub returns-in_err-l : goal.returns-in_err-l
 unfolding ascii
-returns-in_default c = no_first_line c.hex_line-first_line.ensures c.in_default.is
+returns-in_err-l c = rw c.from_residual.ensures (no_first_line c.in_err-l.ensures.reads)
 
-pub hex_line-second_line-requires : goal.hex_line-second_line-requires
+pub returns-in_err-s : goal.returns-in_err-s
 unfolding ascii
-hex_line-second_line-requires c =
-    let f = c in
-    record { from_in_bounds = (hex_is f.hex_line-first_line.ensures f.in-Read.is).inside; text_len_bound = f.requires.text_len_bound_2 }
+returns-in_err-s c =
+    let f = c.in_ok-l.ensures in
+    let r = c.in_err-s.ensures.reads in
+    rw c.from_residual-in_err-s.ensures (no_second_line (hex_is f.reads) (rw f.same_text at r))
 
-pub returns-in_default-second_line : goal.returns-in_default-second_line
+pub returns-in_err-budget : goal.returns-in_err-budget
 unfolding ascii
-returns-in_default-second_line c =
-    let f = c in
-    no_second_line (hex_is f.hex_line-first_line.ensures f.in-Read.is) c.hex_line-second_line.ensures c.in_default-second_line.is
+returns-in_err-budget c =
+    let f = c.in_ok-l.ensures in
+    let g = c.in_ok-s.ensures in
+    let q = g.reads in
+    let r = c.in_err-budget.ensures.reads in
+    rw c.from_residual-in_err-budget.ensures
+    (no_budget_line (hex_is f.reads) (hex_is (rw f.same_text at q)) (rw (g.same_text, f.same_text) at r))
 
-pub number_line-budget_line-requires : goal.number_line-budget_line-requires
+pub returns-then-not-is_at_end : goal.returns-then-not-is_at_end
 unfolding ascii
-number_line-budget_line-requires c =
-    let g = c in
-    (hex_is g.hex_line-second_line.ensures g.in-Read-second_line.is).inside
-
-pub returns-in_default-budget_line : goal.returns-in_default-budget_line
-unfolding ascii
-returns-in_default-budget_line c =
-    let g = c in
-    let f = g in
-    no_budget_line (hex_is f.hex_line-first_line.ensures f.in-Read.is) (hex_is g.hex_line-second_line.ensures g.in-Read-second_line.is) c.number_line-budget_line.ensures c.in_default-budget_line.is
-
-pub returns-then-end-text : goal.returns-then-end-text
-unfolding ascii
-returns-then-end-text c =
-    let h = c in
-    let g = h in
-    let f = g in
-    more_behind (hex_is f.hex_line-first_line.ensures f.in-Read.is) (hex_is g.hex_line-second_line.ensures g.in-Read-second_line.is)
-    (number_is h.number_line-budget_line.ensures h.in-Read-budget_line.is)
-    c.if-end-text.true
+returns-then-not-is_at_end c =
+    let f = c.in_ok-l.ensures in
+    let g = c.in_ok-s.ensures in
+    let h = c.in_ok-budget.ensures in
+    let q = g.reads in
+    let r = h.reads in
+    let same = ap length (h.same_text ∙ g.same_text ∙ f.same_text) in
+    let inside = c.number_line.new.self.inside in
+    let end = eqb-false c.number_line.new.self.at (length c.number_line.new.self.text.now) (sym c.is_at_end.ensures ∙ c.if-not-is_at_end.true) in
+    more_behind (hex_is f.reads) (hex_is (rw f.same_text at q)) (number_is (rw (g.same_text, f.same_text) at r)) (omega arith)
 
 pub returns : goal.returns
 unfolding ascii
 returns c =
-    let h = c in
-    let g = h in
-    let f = g in
-    all_lines (hex_is f.hex_line-first_line.ensures f.in-Read.is) (hex_is g.hex_line-second_line.ensures g.in-Read-second_line.is)
-    (number_is h.number_line-budget_line.ensures h.in-Read-budget_line.is)
-    c.if-end-text.false
+    let f = c.in_ok-l.ensures in
+    let g = c.in_ok-s.ensures in
+    let h = c.in_ok-budget.ensures in
+    let q = g.reads in
+    let r = h.reads in
+    let same = ap length (h.same_text ∙ g.same_text ∙ f.same_text) in
+    let end = eqb-true c.number_line.new.self.at (length c.number_line.new.self.text.now) (sym c.is_at_end.ensures ∙ c.if-not-is_at_end.false) in
+    all_lines (hex_is f.reads) (hex_is (rw f.same_text at q)) (number_is (rw (g.same_text, f.same_text) at r)) (omega arith)

@@ -1,15 +1,9 @@
 -- A job's text has one reading, line by line: so what the lines' readers answer, one behind the other, is the job, or there is none.
-use Rattle.std.specs.Prelude.{ℕ, ◌<◌, ◌≤◌, ◌≡◌, length, take, drop}
+use Rattle.std.specs.Prelude.{ℕ, ◌<◌, ◌≤◌, ◌≡◌, length, take, drop, Some, None}
 use Rattle.std.proofs.Common.{arith, sym, ◌∙◌, ap₂, subst, length-drop, drop_of_length-le}
 use mathlib.Core.List.{List, [], ◌++◌, append_assoc, append-nil, append_cancel_left}
 use Rattle.std.proofs.Math.Path.{ap}
 use Rattle.language.specs.Word.{Bytes}
-use Rattle.text.specs.declared.reading.Passed.{Passed}
-use Rattle.text.specs.declared.reading.Passed.TheVariants.{Not}
-use Rattle.text.specs.declared.named.HexLine.{HexLine}
-use Rattle.text.specs.declared.named.HexLine.TheVariants.{Bad as BadHex}
-use Rattle.text.specs.declared.named.NumberLine.{NumberLine}
-use Rattle.text.specs.declared.named.NumberLine.TheVariants.{Bad as BadNumber}
 use Rattle.text.specs.Ascii.{ascii, line}
 use Rattle.text.specs.Digits.{hex, decimal}
 use Rattle.text.specs.Told.{Passes, ReadsHexLine, ReadsNumberLine}
@@ -17,9 +11,8 @@ use Rattle.text.specs.Laws.Runs.{cons_one}
 use Rattle.text.specs.Laws.Reading.{PassedTo, passed_not}
 use Rattle.text.specs.Laws.Lines.{HexIs, NumberIs, hex_is_not, number_is_not, hex_behind, number_behind}
 use Rattle.jobform.specs.declared.Lines.{Lines}
-use Rattle.jobform.specs.declared.Lines.TheVariants.{Read as LinesRead, Bad as BadLines}
 use Rattle.jobform.specs.declared.Job.{Job as CodeJob}
-use Rattle.jobform.specs.declared.Job.TheVariants.{Compare, Match, Bad as BadJob}
+use Rattle.jobform.specs.declared.Job.TheVariants.{Compare, Match}
 use Rattle.jobform.specs.Form.{Job, compare_job, match_job, lines, job_text, WellFormed, well_compare, well_match}
 use Rattle.refusals.specs.Limits.{most_budget}
 use Rattle.jobform.specs.Told.{ReadsLines, reads_lines, reads_no_lines, NoJob, Reads, reads_compare, reads_match, reads_no_job}
@@ -36,11 +29,11 @@ pub lines_split : (name a b : List ℕ) (n : ℕ)
     → lines name a b n ≡ line (ascii "left=") (hex a) ++ (line name (hex b) ++ (line (ascii "budget=") (decimal n) ++ []))
 lines_split name a b n = sym (append-nil (lines name a b n)) ∙ lines_then name a b n []
 
-pub no_first_line : {text : List ℕ} {from : ℕ} {name left : List ℕ} {h : HexLine} {left' second' : List ℕ} → ReadsHexLine text from (ascii "left=") h left
-    → h ≡ BadHex → ReadsLines text from name BadLines left' second'
-no_first_line {name = name} h e =
+pub no_first_line : {text : List ℕ} {from to : ℕ} {name left left' second' : List ℕ} → ReadsHexLine text from (ascii "left=") None to left
+    → ReadsLines text from name None left' second'
+no_first_line {name = name} h =
     reads_no_lines
-    (λ a b n p q l f. hex_is_not h e a (line name (hex b) ++ (line (ascii "budget=") (decimal n) ++ [])) p (f ∙ lines_split name a b n))
+    (λ a b n p q l f. hex_is_not h a (line name (hex b) ++ (line (ascii "budget=") (decimal n) ++ [])) p (f ∙ lines_split name a b n))
 
 after_first : {text : List ℕ} {from : ℕ} (name : List ℕ) {left : List ℕ} {l after : ℕ} → HexIs text from (ascii "left=") left l after
     → (a b : List ℕ) (n : ℕ) → Bytes a → drop from text ≡ lines name a b n
@@ -55,17 +48,17 @@ after_second {name = name} first next a b n p q f =
     hex_behind next b (line (ascii "budget=") (decimal n) ++ []) q (after_first name first a b n p f)
 
 module _ {text : List ℕ} {from : ℕ} {name left : List ℕ} {l after : ℕ} (first : HexIs text from (ascii "left=") left l after) where
-  pub no_second_line : {h : HexLine} {second left' second' : List ℕ} → ReadsHexLine text after name h second → h ≡ BadHex
-      → ReadsLines text from name BadLines left' second'
-  no_second_line h e =
-      reads_no_lines (λ a b n p q m f. hex_is_not h e b (line (ascii "budget=") (decimal n) ++ []) q (after_first name first a b n p f))
+  pub no_second_line : {to : ℕ} {second left' second' : List ℕ} → ReadsHexLine text after name None to second
+      → ReadsLines text from name None left' second'
+  no_second_line h =
+      reads_no_lines (λ a b n p q m f. hex_is_not h b (line (ascii "budget=") (decimal n) ++ []) q (after_first name first a b n p f))
 
-  pub no_budget_line : {second : List ℕ} {s last : ℕ} {h : NumberLine} {left' second' : List ℕ} → HexIs text after name second s last
-      → ReadsNumberLine text last (ascii "budget=") most_budget h → h ≡ BadNumber → ReadsLines text from name BadLines left' second'
-  no_budget_line next h e = reads_no_lines (λ a b n p q m f. number_is_not h e n [] m (after_second first next a b n p q f))
+  pub no_budget_line : {second : List ℕ} {s last to : ℕ} {left' second' : List ℕ} → HexIs text after name second s last
+      → ReadsNumberLine text last (ascii "budget=") most_budget None to → ReadsLines text from name None left' second'
+  no_budget_line next h = reads_no_lines (λ a b n p q m f. number_is_not h n [] m (after_second first next a b n p q f))
 
   pub more_behind : {second : List ℕ} {s last budget end : ℕ} {left' second' : List ℕ} → HexIs text after name second s last
-      → NumberIs text last (ascii "budget=") most_budget budget end → end < length text → ReadsLines text from name BadLines left' second'
+      → NumberIs text last (ascii "budget=") most_budget budget end → end < length text → ReadsLines text from name None left' second'
   more_behind {end = end} next h m =
       reads_no_lines
       (λ a b n p q k f.
@@ -73,7 +66,8 @@ module _ {text : List ℕ} {from : ℕ} {name left : List ℕ} {l after : ℕ} (
       omega (arith, length-drop end text))
 
   pub all_lines : {second : List ℕ} {s last budget end : ℕ} → HexIs text after name second s last
-      → NumberIs text last (ascii "budget=") most_budget budget end → length text ≤ end → ReadsLines text from name (LinesRead l s budget) left second
+      → NumberIs text last (ascii "budget=") most_budget budget end → length text ≤ end
+      → ReadsLines text from name (Some (record { left = l; second = s; budget = budget })) left second
   all_lines {second} {s} {budget = budget} next h m =
       reads_lines first.in_room next.in_room first.bytes next.bytes h.small
       (first.read
@@ -92,26 +86,12 @@ pub record LinesAre (text : List ℕ) (from : ℕ) (name left second : List ℕ)
   pub read : drop from text ≡ lines name (take l left) (take s second) budget
 
 module _ {text : List ℕ} {from : ℕ} {name left second : List ℕ} where
-  pub lines_are : {h : Lines} {l s budget : ℕ} → ReadsLines text from name h left second → h ≡ LinesRead l s budget
-      → LinesAre text from name left second l s budget
-  lines_are {l = l} {s} {budget} (reads_lines {l = l'} {s = s'} {budget = b'} p q r t u v) e =
-      let f : l' ≡ l = cc in
-      let g : s' ≡ s = cc in
-      let h : b' ≡ budget = cc in
-      record {
-        left_room = omega arith;
-        second_room = omega arith;
-        left_bytes = subst (λ (x : ℕ). Bytes (take x left)) f r;
-        second_bytes = subst (λ (x : ℕ). Bytes (take x second)) g t;
-        small = omega arith;
-        read = v ∙ ap₂ (λ (x y : ℕ). lines name (take x left) (take y second) b') f g ∙ ap (λ (x : ℕ). lines name (take l left) (take s second) x) h;
-      }
-  lines_are (reads_no_lines f) e = let z : ◌≡◌ {A = ℕ} 0 1 = cc in absurd (omega arith)
+  pub lines_are : {h : Lines} → ReadsLines text from name (Some h) left second → LinesAre text from name left second h.left h.second h.budget
+  lines_are (reads_lines p q r t u v) = record { left_room = p; second_room = q; left_bytes = r; second_bytes = t; small = u; read = v }
 
-  pub lines_are_not : {h : Lines} → ReadsLines text from name h left second → h ≡ BadLines → (a b : List ℕ) (n : ℕ) → Bytes a → Bytes b
-      → n ≤ most_budget → drop from text ≡ lines name a b n → ⊥
-  lines_are_not (reads_lines p q r t u v) e = let z : ◌≡◌ {A = ℕ} 0 1 = cc in absurd (omega arith)
-  lines_are_not (reads_no_lines f) e = f
+  pub lines_are_not : ReadsLines text from name None left second → (a b : List ℕ) (n : ℕ) → Bytes a → Bytes b → n ≤ most_budget
+      → drop from text ≡ lines name a b n → ⊥
+  lines_are_not (reads_no_lines f) = f
 
 -- The two first lines differ in their fifth character.
 pub other_job : (s t : List ℕ) → ascii "job=compare\n" ++ s ≡ ascii "job=match\n" ++ t → ⊥
@@ -122,14 +102,14 @@ other_job s t e =
 
 module _ {text : List ℕ} {at : ℕ} where
   pub a_comparison : {left second : List ℕ} {l s budget : ℕ} → PassedTo text 0 (ascii "job=compare\n") at
-      → LinesAre text at (ascii "right=") left second l s budget → Reads text (Compare l s budget) left second
+      → LinesAre text at (ascii "right=") left second l s budget → Reads text (Some (Compare l s budget)) left second
   unfolding job_text
   a_comparison p k =
       reads_compare k.left_room k.second_room (well_compare k.left_bytes k.second_bytes k.small)
       (p.read ∙ ap (λ (x : List ℕ). ascii "job=compare\n" ++ x) k.read)
 
   pub a_match : {left second : List ℕ} {l s budget : ℕ} → PassedTo text 0 (ascii "job=match\n") at
-      → LinesAre text at (ascii "word=") left second l s budget → Reads text (Match l s budget) left second
+      → LinesAre text at (ascii "word=") left second l s budget → Reads text (Some (Match l s budget)) left second
   unfolding job_text
   a_match p k =
       reads_match k.left_room k.second_room (well_match k.left_bytes k.second_bytes k.small)
@@ -152,13 +132,13 @@ module _ {text : List ℕ} {at : ℕ} where
   match_lines p n (match_job a b m) (well_match k l s) e =
       n a b m k l s (append_cancel_left (ascii "job=match\n") (drop at text) (lines (ascii "word=") a b m) (sym p.read ∙ e))
 
-  pub no_comparison : {h : Lines} {left second : List ℕ} → PassedTo text 0 (ascii "job=compare\n") at
-      → ReadsLines text at (ascii "right=") h left second → h ≡ BadLines → Reads text BadJob left second
-  no_comparison p h e = reads_no_job (record { none_has = comparison_lines p (lines_are_not h e) })
+  pub no_comparison : {left second : List ℕ} → PassedTo text 0 (ascii "job=compare\n") at
+      → ReadsLines text at (ascii "right=") None left second → Reads text None left second
+  no_comparison p h = reads_no_job (record { none_has = comparison_lines p (lines_are_not h) })
 
-  pub no_match : {h : Lines} {left second : List ℕ} → PassedTo text 0 (ascii "job=match\n") at → ReadsLines text at (ascii "word=") h left second
-      → h ≡ BadLines → Reads text BadJob left second
-  no_match p h e = reads_no_job (record { none_has = match_lines p (lines_are_not h e) })
+  pub no_match : {left second : List ℕ} → PassedTo text 0 (ascii "job=match\n") at → ReadsLines text at (ascii "word=") None left second
+      → Reads text None left second
+  no_match p h = reads_no_job (record { none_has = match_lines p (lines_are_not h) })
 
 -- No job, since neither first line stands there.
 neither_line : {text : List ℕ} → ((rest : List ℕ) → text ≡ ascii "job=compare\n" ++ rest → ⊥) → ((rest : List ℕ) → text ≡ ascii "job=match\n" ++ rest → ⊥)
@@ -167,9 +147,9 @@ unfolding job_text
 neither_line f g (compare_job a b m) (well_compare k l s) e = f (lines (ascii "right=") a b m) e
 neither_line f g (match_job a b m) (well_match k l s) e = g (lines (ascii "word=") a b m) e
 
-pub no_job : {text : List ℕ} {p q : Passed} {left second : List ℕ} → Passes text 0 (ascii "job=compare\n") p → p ≡ Not
-    → Passes text 0 (ascii "job=match\n") q → q ≡ Not → Reads text BadJob left second
-no_job f e g k = reads_no_job (record { none_has = neither_line (passed_not f e) (passed_not g k) })
+pub no_job : {text : List ℕ} {at to : ℕ} {left second : List ℕ} → Passes text 0 (ascii "job=compare\n") None at
+    → Passes text 0 (ascii "job=match\n") None to → Reads text None left second
+no_job f g = reads_no_job (record { none_has = neither_line (passed_not f) (passed_not g) })
 
 -- What is read: the job, whose parts stand at the start of the two rooms.
 pub record JobRead (text left second : List ℕ) (l s : ℕ) (j : Job) : Type 0 where
@@ -178,7 +158,7 @@ pub record JobRead (text left second : List ℕ) (l s : ℕ) (j : Job) : Type 0 
   pub well : WellFormed j
   pub is : text ≡ job_text j
 
-pub comparison_read : {text left second : List ℕ} {j : CodeJob} {l s budget : ℕ} → Reads text j left second → j ≡ Compare l s budget
+pub comparison_read : {text left second : List ℕ} {j : CodeJob} {l s budget : ℕ} → Reads text (Some j) left second → j ≡ Compare l s budget
     → JobRead text left second l s (compare_job (take l left) (take s second) budget)
 comparison_read {text} {left} {second} {l = l} {s} {budget} (reads_compare {l = l'} {s = s'} {budget = b'} p q w e) f =
     let a : l' ≡ l = cc in
@@ -187,9 +167,8 @@ comparison_read {text} {left} {second} {l = l} {s} {budget} (reads_compare {l = 
     let same = ap₂ (λ (x y : ℕ). compare_job (take x left) (take y second) b') a b ∙ ap (λ (x : ℕ). compare_job (take l left) (take s second) x) c in
     record { left_room = omega arith; second_room = omega arith; well = subst WellFormed same w; is = e ∙ ap job_text same }
 comparison_read (reads_match p q w e) f = let z : ◌≡◌ {A = ℕ} 0 1 = cc in absurd (omega arith)
-comparison_read (reads_no_job n) f = let z : ◌≡◌ {A = ℕ} 0 1 = cc in absurd (omega arith)
 
-pub match_read : {text left second : List ℕ} {j : CodeJob} {l s budget : ℕ} → Reads text j left second → j ≡ Match l s budget
+pub match_read : {text left second : List ℕ} {j : CodeJob} {l s budget : ℕ} → Reads text (Some j) left second → j ≡ Match l s budget
     → JobRead text left second l s (match_job (take l left) (take s second) budget)
 match_read (reads_compare p q w e) f = let z : ◌≡◌ {A = ℕ} 0 1 = cc in absurd (omega arith)
 match_read {text} {left} {second} {l = l} {s} {budget} (reads_match {l = l'} {s = s'} {budget = b'} p q w e) f =
@@ -198,9 +177,6 @@ match_read {text} {left} {second} {l = l} {s} {budget} (reads_match {l = l'} {s 
     let c : b' ≡ budget = cc in
     let same = ap₂ (λ (x y : ℕ). match_job (take x left) (take y second) b') a b ∙ ap (λ (x : ℕ). match_job (take l left) (take s second) x) c in
     record { left_room = omega arith; second_room = omega arith; well = subst WellFormed same w; is = e ∙ ap job_text same }
-match_read (reads_no_job n) f = let z : ◌≡◌ {A = ℕ} 0 1 = cc in absurd (omega arith)
 
-pub nothing_read : {text left second : List ℕ} {j : CodeJob} → Reads text j left second → j ≡ BadJob → NoJob text
-nothing_read (reads_compare p q w e) f = let z : ◌≡◌ {A = ℕ} 0 1 = cc in absurd (omega arith)
-nothing_read (reads_match p q w e) f = let z : ◌≡◌ {A = ℕ} 0 1 = cc in absurd (omega arith)
-nothing_read (reads_no_job n) f = n
+pub nothing_read : {text left second : List ℕ} → Reads text None left second → NoJob text
+nothing_read (reads_no_job n) = n

@@ -1,5 +1,5 @@
 -- Readers at work: what is read so far, in front of what is left of the text, and what each way out of a reader's loop says of the whole.
-use Rattle.std.specs.Prelude.{ℕ, ◌+◌, ◌-◌, ◌*◌, ◌<◌, ◌≤◌, ◌≡◌, refl, length, get_or, set, Bool, true, false, eqb, Option, Some, None, ⊤}
+use Rattle.std.specs.Prelude.{ℕ, ◌+◌, ◌-◌, ◌*◌, ◌<◌, ◌≤◌, ◌≡◌, refl, length, get_or, set, Bool, true, false, eqb, Option, Some, None, is_some, ⊤}
 use Rattle.std.specs.List.{starts_with}
 use Rattle.std.proofs.Math.Numerals.{add-one}
 use Rattle.std.proofs.lemmas.Bool.Decides.{Decides-eqb}
@@ -249,7 +249,7 @@ number_no_digit {text} {from} most (reads_no_digit n) = reads_no_number (record 
     no_run t none l h = omega arith
     no_run t (one {c} {w} d k) l h = n.stops c (w ++ t) h d
 
-pub number_at_end : (text : List ℕ) (from most : ℕ) → from ≡ length text → ReadsNumber text from most None from
+pub number_at_end : (text : List ℕ) (from most : ℕ) → from ≡ length text → {to : ℕ} → ReadsNumber text from most None to
 number_at_end text from most e = number_no_digit most (digit_ended text from (omega arith))
 
 -- A number with these digits, not too large.
@@ -310,8 +310,8 @@ module _ {text : List ℕ} {from most value at : ℕ} (h : NumberSoFar text from
   number_ended l = number_done (digit_ended text at l)
 
   -- One digit more, or too many.
-  pub number_more : {c v to : ℕ} → ReadsDigit text at (Some c) to → Grows value c most (Some v) → NumberSoFar text from most v to
-  number_more {c} (reads_digit l d e) g =
+  one_more : {c v : ℕ} → at < length text → drop at text ≡ c ∷ drop (at + 1) text → Grows value c most (Some v) → NumberSoFar text from most v (at + 1)
+  one_more {c} l e g =
       let k = grown g in
       record {
         inside = omega arith;
@@ -320,14 +320,16 @@ module _ {text : List ℕ} {from most value at : ℕ} (h : NumberSoFar text from
             ∙ ap (λ (s : List ℕ). s ++ drop (at + 1) text) (sym k.digits);
       }
 
+  pub number_more : {c v to : ℕ} → ReadsDigit text at (Some c) to → Grows value c most (Some v) → NumberSoFar text from most v to
+  number_more (reads_digit l d e) g = one_more l e g
+
   pub number_too_far : {c to last : ℕ} → ReadsDigit text at (Some c) to → Grows value c most None → ReadsNumber text from most None last
   number_too_far {c} (reads_digit l d e) g =
       reads_no_number
       (subst (λ (s : List ℕ). NoNumber most s) (sym (h.read ∙ ap (λ (s : List ℕ). decimal value ++ s) e)) (not_grown g (drop (at + 1) text) d))
 
-  pub number_grown : {v : ℕ} → at < length text → IsDigit (get_or text at 0) → Grows value (get_or text at 0) most (Some v)
-      → NumberSoFar text from most v (at + 1)
-  number_grown l d g = number_more (digit_one text at l d) g
+  pub number_grown : {v : ℕ} → at < length text → Grows value (get_or text at 0) most (Some v) → NumberSoFar text from most v (at + 1)
+  number_grown l g = one_more l (next text at l) g
 
   pub number_not : {to : ℕ} → at < length text → IsDigit (get_or text at 0) → Grows value (get_or text at 0) most None → ReadsNumber text from most None to
   number_not l d g = number_too_far (digit_one text at l d) g
@@ -343,6 +345,18 @@ module _ {text : List ℕ} {from : ℕ} {piece : List ℕ} where
 
   pub passed_not : {at : ℕ} → Passes text from piece None at → (rest : List ℕ) → drop from text ≡ piece ++ rest → ⊥
   passed_not (passes_not f) = f
+
+  -- The same where it is asked whether the piece was passed, as a caller with another piece to try does.
+  pub passed_some : {r : Option ⊤} {at : ℕ} → Passes text from piece r at → is_some r ≡ true → PassedTo text from piece at
+  passed_some (passes l e) t = record { inside = l; read = e }
+  passed_some (passes_not f) t = absurd (true≢false (sym t))
+
+  pub passed_none : {r : Option ⊤} {at : ℕ} → Passes text from piece r at → is_some r ≡ false → Passes text from piece None at
+  passed_none (passes l e) t = absurd (true≢false t)
+  passed_none (passes_not f) t = passes_not f
+
+  pub stays : {at : ℕ} → Passes text from piece None at → at ≡ from
+  stays (passes_not f) = refl
 
 -- A number is read, up to a place, or there is none.
 pub record NumberTo (text : List ℕ) (from most n to : ℕ) : Type 0 where

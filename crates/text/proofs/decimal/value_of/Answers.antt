@@ -5,7 +5,7 @@ use Rattle.text.specs.Laws.Growing.{digit_of}
 use Rattle.text.proofs.decimal.value_of.Goals as goal
 
 pub returns-in-48-to-57 : goal.returns-in-48-to-57
-returns-in-48-to-57 c = digit_of c.args.digit (omega arith) (omega arith)
+returns-in-48-to-57 c = rw c.from.ensures (digit_of c.args.digit (omega arith) (omega arith))
 
 pub returns-in_default : goal.returns-in_default
 returns-in_default c = no_digit (λ d. omega arith)

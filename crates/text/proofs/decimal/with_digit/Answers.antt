@@ -9,8 +9,8 @@ returns-in_err-last c = rw c.from_residual.ensures (no_digit_more c.args.value c
 pub returns-then-value-eq0 : goal.returns-then-value-eq0
 returns-then-value-eq0 c = zero_first c.args.value c.args.digit c.args.most c.if-value-eq0.true
 
-pub returns-then-most-more : goal.returns-then-most-more
-returns-then-most-more c =
+pub returns-then-from-more : goal.returns-then-from-more
+returns-then-from-more c =
     let v = (is_digit_of c.in_ok-last.ensures).value in
     too_large c.args.value c.args.digit c.args.most c.if-value-eq0.false (omega arith)
 
@@ -18,4 +18,5 @@ pub returns : goal.returns
 returns c =
     let d = is_digit_of c.in_ok-last.ensures in
     let v = d.value in
-    rw v (one_digit_more c.args.value c.args.digit c.args.most c.if-value-eq0.false d.digit (omega arith))
+    rw (c.from.ensures, c.from-2.ensures, v)
+    (one_digit_more c.args.value c.args.digit c.args.most c.if-value-eq0.false d.digit (omega arith))

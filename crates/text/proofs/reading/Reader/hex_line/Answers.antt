@@ -14,7 +14,7 @@ returns-in_err-pass-2-clause-reads c =
     let h = c.hex-count.ensures in
     let r = h.reads in
     let f = c.in_err-pass-2.ensures.passes in
-    let l = c.requires.text_len_bound in
+    let l = c.requires.room_long_enough in
     let k = c.hex-count.auto.room in
     rw c.from_residual-in_err-pass-2.ensures
     (no_hex_feed (passed_to n.passes) (omega arith) (rw n.same_text at r) (passed_not (rw (h.goes_on, h.same_text, n.same_text) at f)))
