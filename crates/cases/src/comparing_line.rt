@@ -6,6 +6,7 @@ use lines::keys::Keys;
 use lines::parts::part;
 use lines::printing::{bytes, number, words};
 use lines::rooms::{LARGEST_ROOM, Lent, taken};
+use refusals::refusal::Refusal;
 use std::io;
 use std::io::Write;
 
@@ -111,7 +112,8 @@ fn show<W: Write>(output: &mut W, answer: Comparison, room: &[u8]) -> io::Result
             (pairs, places, visits)
         }
         Comparison::WordRoomShort(length, pairs, places, visits) => {
-            number(output, b"answer=refused reason=10 length=", length as u64)?;
+            refused(output, Refusal::ShortWordRoom.number())?;
+            number(output, b" length=", length as u64)?;
             (pairs, places, visits)
         }
     };
