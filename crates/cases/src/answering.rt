@@ -1,53 +1,61 @@
 // Answering what comes in, a line at a time.
-use crate::{checking_line, comparing_line, job_line, matching_line};
-use lines::parts::part;
+use crate::checking_line::Checking;
+use crate::comparing_line::Comparing;
+use crate::job_line::Job;
+use crate::matching_line::Matching;
+use lines::keys::{Keys, SPELLED};
 use lines::printing::end;
-use lines::reading::{CHUNK, KEPT, LONGEST, Reading, begin, read_line};
+use lines::reading::each_line;
 use std::io;
 use std::io::{Read, Write};
 
-// Answers each line. A loop has to end, and nothing says that the input does: so the turns are counted down from a number that no run uses
-// up.
+// What a line asks for.
+#[derive(Clone, Copy)]
+enum Asked<'a> {
+    Match(Matching<'a>),
+    Compare(Comparing<'a>),
+    Check(Checking<'a>),
+    Job(Job<'a>),
+}
+
+// Answers each line.
 pub fn answer_all<R: Read, W: Write>(input: &mut R, output: &mut W) -> io::Result<()> {
-    let mut kept = [0u8; KEPT];
-    let mut chunk = [0u8; CHUNK];
-    let mut reading = begin();
-    let mut turns = u64::MAX;
-    while turns > 0 && !reading.ended {
-        reading = answer_next(input, output, &mut kept, &mut chunk, reading)?;
-        turns -= 1;
-    }
-    Ok(())
+    each_line(input, |line| answer_line(output, line))
 }
 
-// Reads the next line and answers it.
-fn answer_next<R: Read, W: Write>(
-    input: &mut R,
-    output: &mut W,
-    kept: &mut [u8; KEPT],
-    chunk: &mut [u8; CHUNK],
-    before: Reading,
-) -> io::Result<Reading> {
-    let reading = read_line(input, kept, chunk, before)?;
-    if reading.whole {
-        answer_kept(output, kept, reading.length)?;
-    }
-    Ok(reading)
-}
-
-// Answers a line of that length. The whole answer is written before the next line is read.
-fn answer_kept<W: Write>(output: &mut W, kept: &[u8; KEPT], length: usize) -> io::Result<()> {
-    let answered = length <= LONGEST && answer(output, part(kept, 0, length))?;
+// Answers a line, or none where it is too long. The whole answer is written before the next line is read.
+fn answer_line<W: Write>(output: &mut W, line: Option<&[u8]>) -> io::Result<()> {
+    let answered = match line {
+        Some(line) => answer(output, line)?,
+        None => false,
+    };
     end(output, answered)?;
     output.flush()
 }
 
 // Writes the answer to a line, and tells whether the line is of some form.
 fn answer<W: Write>(output: &mut W, line: &[u8]) -> io::Result<bool> {
-    Ok(
-        matching_line::answer(output, line)?
-            || comparing_line::answer(output, line)?
-            || checking_line::answer(output, line)?
-            || job_line::answer(output, line)?,
-    )
+    // the array stays: no heap
+    let mut room = [0; SPELLED];
+    match read(line, &mut room) {
+        Some(Asked::Match(call)) => call.answer(output)?,
+        Some(Asked::Compare(call)) => call.answer(output)?,
+        Some(Asked::Check(call)) => call.answer(output)?,
+        Some(Asked::Job(job)) => job.answer(output)?,
+        None => return Ok(false),
+    }
+    Ok(true)
+}
+
+// Reads a line by its first word.
+fn read<'a>(line: &'a [u8], room: &'a mut [u8]) -> Option<Asked<'a>> {
+    let end = line.iter().position(|byte| *byte == b' ')?;
+    let keys = Keys::new(&line[end..], room);
+    match &line[..end] {
+        b"match" => Matching::read(keys).map(Asked::Match),
+        b"compare" => Comparing::read(keys).map(Asked::Compare),
+        b"check" => Checking::read(keys).map(Asked::Check),
+        b"job" => Job::read(keys).map(Asked::Job),
+        _ => None,
+    }
 }

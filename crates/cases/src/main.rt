@@ -11,6 +11,7 @@ mod comparing_line;
 mod job_line;
 mod matching_line;
 mod printing;
+mod work_room;
 
 fn main(rt: HostRuntime) -> io::Result<()> {
     let mut input = rt.stdin();

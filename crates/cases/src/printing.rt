@@ -12,15 +12,26 @@ pub struct Counts {
     pub visits: u32,
 }
 
+// An answer with its counts, which are handed on.
+pub fn said<W: Write>(
+    output: &mut W,
+    answer: &[u8],
+    places: usize,
+    visits: u32,
+) -> io::Result<Counts> {
+    words(output, answer)?;
+    Ok(Counts { places, visits })
+}
+
 // A refusal.
 pub fn refused<W: Write>(output: &mut W, reason: u8) -> io::Result<()> {
-    number(output, b"answer=refused reason=", reason as u64)
+    number(output, b"answer=refused reason=", u64::from(reason))
 }
 
 // The counts.
-pub fn show_counts<W: Write>(output: &mut W, places: usize, visits: u32) -> io::Result<()> {
-    number(output, b" places=", places as u64)?;
-    number(output, b" visits=", visits as u64)
+pub fn show_counts<W: Write>(output: &mut W, counts: Counts) -> io::Result<()> {
+    let Counts { places, visits } = counts;
+    write!(output, " places={places} visits={visits}")
 }
 
 // A key and the bytes that a number of places or pairs takes at the start of a room.
@@ -35,32 +46,4 @@ pub fn touched<W: Write>(output: &mut W, as_lent: bool) -> io::Result<()> {
     } else {
         words(output, b" touched")
     }
-}
-
-// An answer with its counts, which are handed on.
-pub fn said<W: Write>(
-    output: &mut W,
-    answer: &[u8],
-    places: usize,
-    visits: u32,
-) -> io::Result<Counts> {
-    words(output, answer)?;
-    Ok(Counts { places, visits })
-}
-
-// A refusal with its counts, which are handed on.
-pub fn said_refused<W: Write>(
-    output: &mut W,
-    reason: u8,
-    places: usize,
-    visits: u32,
-) -> io::Result<Counts> {
-    refused(output, reason)?;
-    Ok(Counts { places, visits })
-}
-
-// The counts of a call that has a work room alone, and the bytes of its places.
-pub fn work<W: Write>(output: &mut W, room: &[u8], told: Counts) -> io::Result<()> {
-    show_counts(output, told.places, told.visits)?;
-    laid(output, b" work=", room, told.places)
 }

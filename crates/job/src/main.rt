@@ -31,14 +31,16 @@ fn answer_job<R: Read, W: Write>(input: &mut R, output: &mut W) -> io::Result<()
     ensures written { OnOk result (IfSome (R.remaining input.old)
         (WritesAnswer (W.contents output.old) (W.contents output.new))) }
 {
-    let mut job = [0u8; MOST_READ];
+    // the arrays stay, each with a length beside it: no heap
+    let mut job = [0; MOST_READ];
     let count = read_full(input, &mut job)?;
-    let mut out = [0u8; MOST_ANSWER];
+    let mut out = [0; MOST_ANSWER];
     let length = jobtext::answer(&job[..count], &mut out);
     output.write_all(&out[..length])
 }
 
-// Reads until the room is full or the input ends, and tells how many bytes came.
+// Reads until the room is full or the input ends, and tells how many bytes came. The loop stays: `read_exact` refuses an input that ends before
+// the room is full, and `read_to_end` needs a heap.
 fn read_full<R: Read>(input: &mut R, room: &mut [u8]) -> io::Result<usize>
     ensures in_room { IfOk result (λ count. count ≤ length room.new) }
     ensures bytes { IfOk result (λ count.

@@ -6,9 +6,5 @@ pub fn part(bytes: &[u8], from: usize, to: usize) -> &[u8]
     ensures inside { from ≤ to → to ≤ length bytes.now → result.now ≡ slice_range bytes.now from to }
     ensures outside { ¬ (from ≤ to × to ≤ length bytes.now) → result.now ≡ [] }
 {
-    if from <= to && to <= bytes.len() {
-        &bytes[from..to]
-    } else {
-        &bytes[0..0]
-    }
+    bytes.get(from..to).unwrap_or(&[])
 }

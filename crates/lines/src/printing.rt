@@ -1,6 +1,6 @@
 // Writing an answer: words, keys with their values, bytes in hex, and the end of a line's answer. Where it is known what the writer holds, each
 // says what is added to that.
-ghost use Rattle.std.specs.Prelude.{[], ◌∷◌, ◌++◌, ◌+◌, ◌<◌, ◌≤◌, length, if◌then◌else◌, OnOk, codes};
+ghost use Rattle.std.specs.Prelude.{[], ◌∷◌, ◌++◌, ◌≤◌, length, if◌then◌else◌, OnOk, codes};
 ghost use Rattle.std.specs.Fmt.{decimal};
 ghost use Rattle.std.specs.Io.KnownBytes.{Appends};
 ghost use Rattle.text.specs.Digits.{hex};
@@ -8,7 +8,7 @@ ghost use Rattle.text.specs.Digits.{hex};
 use crate::parts::part;
 use std::io;
 use std::io::Write;
-use text::writing::put_hex;
+use text::writing::Writer;
 
 // The bytes whose digits are written at once.
 const BLOCK: usize = 2048;
@@ -43,8 +43,7 @@ pub fn byte<W: Write>(output: &mut W, key: &[u8], shown: u8) -> io::Result<()>
     ensures { OnOk result
         (Appends (W.contents output.old) (W.contents output.new) (key.now ++ hex (shown ∷ []))) }
 {
-    let one = [shown; 1];
-    bytes(output, key, &one)
+    bytes(output, key, &[shown])
 }
 
 // Bytes as lower-case hexadecimal digits.
@@ -52,11 +51,8 @@ pub fn hex<W: Write>(output: &mut W, shown: &[u8]) -> io::Result<()>
     ensures { OnOk result
         (Appends (W.contents output.old) (W.contents output.new) (hex shown.now)) }
 {
-    let mut at = 0;
-    while at < shown.len() {
-        let next = block_end(shown.len(), at);
-        block(output, part(shown, at, next))?;
-        at = next;
+    for piece in shown.chunks(BLOCK) {
+        block(output, piece)?;
     }
     Ok(())
 }
@@ -73,29 +69,16 @@ pub fn end<W: Write>(output: &mut W, answered: bool) -> io::Result<()>
     words(output, b"\n")
 }
 
-// Where the block that begins at a place ends.
-fn block_end(length: usize, at: usize) -> usize
-    requires { at < length }
-    ensures lower_bound { at < result }
-    ensures upper_bound { result ≤ length }
-    ensures block_bound { result ≤ at + BLOCK }
-{
-    if length - at <= BLOCK {
-        length
-    } else {
-        at + BLOCK
-    }
-}
-
 // Writes the digits of no more bytes than a block has.
 fn block<W: Write>(output: &mut W, shown: &[u8]) -> io::Result<()>
-    ensures { length shown.now ≤ BLOCK → OnOk result
+    requires { length shown.now ≤ BLOCK }
+    ensures { OnOk result
         (Appends (W.contents output.old) (W.contents output.new) (hex shown.now)) }
 {
-    let mut digits = [0u8; 2 * BLOCK];
-    if shown.len() <= BLOCK {
-        let length = put_hex(&mut digits, 0, shown);
-        return words(output, part(&digits, 0, length));
-    }
-    Ok(())
+    // the array stays: no heap
+    let mut digits = [0; 2 * BLOCK];
+    let mut writer = Writer::new(&mut digits);
+    writer.hex(shown);
+    let length = writer.at;
+    words(output, part(&digits, 0, length))
 }

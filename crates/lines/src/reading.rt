@@ -1,96 +1,133 @@
 // Reading what comes in to its end, line by line.
+ghost use Rattle.std.specs.Prelude.{ℕ, ◌+◌, ◌<◌, ◌≤◌, List, [], ◌∷◌, ◌++◌, length, IfSome, OnOk};
+ghost use Rattle.lines.specs.Answered.{lines_of, GivenAs, EachAnswered};
+ghost use Rattle.lines.specs.Kept.{Holds, GoesOn};
+
 use std::io;
 use std::io::Read;
 
-const LINE_FEED: u8 = 10;
+const LINE_FEED: u8 = b'\n';
 
-// The bytes of the longest line that is read.
+// The bytes of the longest line that is kept.
 pub const LONGEST: usize = 400000;
-// A byte more than that is kept of a line, to know one that is longer.
-pub const KEPT: usize = 400001;
 // The bytes that are read at once.
 pub const CHUNK: usize = 65536;
 
-// How far reading is: the bytes kept of the line, whether the line is whole and whether the input has ended; and which bytes of the chunk
-// that came last are still to be kept.
-#[derive(Clone, Copy)]
-pub struct Reading {
-    pub length: usize,
-    pub whole: bool,
-    pub ended: bool,
-    from: usize,
-    to: usize,
+// A line as far as it came: its bytes, no more than the longest line has, and how many there were. The array with a length beside it stays,
+// since there is to be no heap.
+#[derive(Drop)]
+struct Line {
+    bytes: [u8; LONGEST],
+    length: usize,
 }
 
-// Reading that has not begun.
-pub fn begin() -> Reading {
-    Reading {
-        length: 0,
-        whole: false,
-        ended: false,
-        from: 0,
-        to: 0,
+impl Line {
+    // A line of which nothing came.
+    fn new() -> Self
+        ensures { Holds LONGEST result [] }
+    {
+        Line {
+            bytes: [0; LONGEST],
+            length: 0,
+        }
+    }
+
+    // The line, if it is not too long.
+    fn text(&self) -> Option<&[u8]>
+        ensures { (came : List ℕ) → Holds LONGEST self.now came → GivenAs LONGEST came result }
+    {
+        self.bytes.get(..self.length)
+    }
+
+    // One more byte comes.
+    fn keep(&mut self, byte: u8)
+        ensures { (came : List ℕ) → length came < usize.MAX → Holds LONGEST self.old came
+            → Holds LONGEST self.new (came ++ byte ∷ []) }
+    {
+        if self.length < LONGEST {
+            self.bytes[self.length] = byte;
+        }
+        self.length = self.length.saturating_add(1);
+    }
+
+    // Another line comes.
+    fn clear(&mut self)
+        ensures { Holds LONGEST self.new [] }
+    {
+        self.length = 0;
     }
 }
 
-// Reads the next line, without its line feed. Where the input ends there is no whole line, unless some bytes stand there with no line feed.
-// A loop has to end, and nothing says that a line does: so the turns are counted down from a number that no run uses up.
-pub fn read_line<R: Read>(
+// Has each line answered, without its line feed, before more is read; a line that is too long is answered as none.
+pub fn each_line<R: Read, F: FnMut(Option<&[u8]>) -> io::Result<()>>(
     input: &mut R,
-    line: &mut [u8; KEPT],
-    chunk: &mut [u8; CHUNK],
-    before: Reading,
-) -> io::Result<Reading> {
-    let mut reading = before;
-    reading.length = 0;
-    reading.whole = false;
-    let mut turns = u64::MAX;
-    while turns > 0 && !reading.whole && !reading.ended {
-        reading = step(input, line, chunk, reading)?;
-        turns -= 1;
+    mut answer: F,
+) -> io::Result<()>
+    requires { F.IsAlwaysCallable answer }
+    ensures { OnOk result (IfSome (R.remaining input.old) (λ text.
+        length text < usize.MAX → (last : F) × EachAnswered LONGEST F.step answer (lines_of text []) last)) }
+{
+    // the array stays, and `count` beside it: no heap
+    let mut chunk = [0; CHUNK];
+    let mut line = Line::new();
+    for _ in 0..u64::MAX {
+        let count = input.read(&mut chunk)?;
+        if count == 0 {
+            return answer_last(&line, answer);
+        }
+        answer_each(&mut line, &chunk[..count], &mut answer)?;
     }
-    Ok(reading)
+    Ok(())
 }
 
-// Keeps the next byte of the chunk, or reads the next chunk where no byte is left.
-fn step<R: Read>(
-    input: &mut R,
-    line: &mut [u8; KEPT],
-    chunk: &mut [u8; CHUNK],
-    reading: Reading,
-) -> io::Result<Reading> {
-    let from = reading.from;
-    if from < reading.to && from < CHUNK {
-        let mut next = keep(line, reading, chunk[from]);
-        next.from = from + 1;
-        Ok(next)
-    } else {
-        fill(input, chunk, reading)
+// Has the last line answered, if any bytes of it came.
+fn answer_last<F: FnMut(Option<&[u8]>) -> io::Result<()>>(
+    line: &Line,
+    mut answer: F,
+) -> io::Result<()>
+    requires { F.IsAlwaysCallable answer }
+    ensures { OnOk result ((came : List ℕ) → Holds LONGEST line.now came
+        → (last : F) × EachAnswered LONGEST F.step answer (lines_of [] came) last) }
+{
+    if line.length == 0 {
+        return Ok(());
     }
+    answer(line.text())
 }
 
-// Keeps one byte, if it has room, or ends the line.
-fn keep(line: &mut [u8; KEPT], reading: Reading, byte: u8) -> Reading {
-    let length = reading.length;
-    let mut next = reading;
-    if byte == LINE_FEED {
-        next.whole = true;
-    } else if length < KEPT {
-        line[length] = byte;
-        next.length = length + 1;
+// Takes more bytes, and has each line that they end answered.
+fn answer_each<F: FnMut(Option<&[u8]>) -> io::Result<()>>(
+    line: &mut Line,
+    bytes: &[u8],
+    answer: &mut F,
+) -> io::Result<()>
+    requires { F.IsAlwaysCallable answer.old }
+    ensures callable { F.IsAlwaysCallable answer.new }
+    ensures answers { OnOk result ((came : List ℕ) → Holds LONGEST line.old came → length came + length bytes.now ≤ usize.MAX
+        → GoesOn LONGEST F.step answer.old came bytes.now answer.new line.new) }
+{
+    for byte in bytes {
+        answer_at(line, *byte, answer)?;
     }
-    next
+    Ok(())
 }
 
-// Reads once. Where nothing came the input has ended, and a line with no line feed with it.
-fn fill<R: Read>(input: &mut R, chunk: &mut [u8; CHUNK], reading: Reading) -> io::Result<Reading> {
-    let count = input.read(chunk)?;
-    let mut next = reading;
-    next.from = 0;
-    next.to = count;
-    if count == 0 {
-        next.whole = 0 < reading.length;
-        next.ended = true;
+// Takes one byte more: one of the line, or the line's end.
+fn answer_at<F: FnMut(Option<&[u8]>) -> io::Result<()>>(
+    line: &mut Line,
+    byte: u8,
+    answer: &mut F,
+) -> io::Result<()>
+    requires { F.IsAlwaysCallable answer.old }
+    ensures callable { F.IsAlwaysCallable answer.new }
+    ensures answers { OnOk result ((came : List ℕ) → Holds LONGEST line.old came → length came < usize.MAX
+        → GoesOn LONGEST F.step answer.old came (byte ∷ []) answer.new line.new) }
+{
+    if byte != LINE_FEED {
+        line.keep(byte);
+        return Ok(());
     }
-    Ok(next)
+    answer(line.text())?;
+    line.clear();
+    Ok(())
 }

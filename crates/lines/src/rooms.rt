@@ -1,78 +1,62 @@
 // The rooms that a call is lent: full of one byte, but that they begin with what an earlier call left, cut to their size.
-use crate::form::{SPELLED, VALUES, bytes_of, number_of};
+ghost use Rattle.std.specs.Prelude.{◌≤◌, ◌≡◌, length, Decides};
+ghost use Rattle.lines.specs.Lent.{taken_of};
+ghost use Rattle.lines.specs.declared.rooms.TheConstants.{LARGEST_ROOM};
+
+// The bytes of the largest room. Each room is the start of an array of that size, since there is to be no heap.
+pub const LARGEST_ROOM: usize = 65536;
 
 // The bytes of a place and of a pair.
 const PLACE: usize = 8;
 
-// Lays a room as it is lent, by the keys of the byte that fills it and of what it begins with.
-pub fn lay<'a>(
-    room: &mut [u8],
-    bytes: &'a [u8; SPELLED],
-    values: &'a [usize; VALUES],
-    fill: usize,
-    was: usize,
-) {
-    lay_bytes(room, fill_of(values, fill), bytes_of(bytes, values, was));
+// How a room is lent: its size, the byte that fills it, and what an earlier call left at its start.
+#[derive(Clone, Copy)]
+pub struct Lent<'a> {
+    pub size: usize,
+    pub fill: u8,
+    pub was: &'a [u8],
+    pub ghost no_larger: { size ≤ LARGEST_ROOM },
 }
 
-// Whether every byte of a room from a place on is as it was lent, by the same keys.
-pub fn as_lent<'a>(
-    room: &[u8],
-    from: usize,
-    bytes: &'a [u8; SPELLED],
-    values: &'a [usize; VALUES],
-    fill: usize,
-    was: usize,
-) -> bool {
-    same_bytes(
-        room,
-        from,
-        fill_of(values, fill),
-        bytes_of(bytes, values, was),
-    )
+impl<'a> Lent<'a> {
+    ghost use Rattle.lines.specs.Lent.{lent_byte, IsAsLent};
+
+    // The room, laid at the start of a space for it.
+    pub fn lay<'r>(&self, space: &'r mut [u8; LARGEST_ROOM]) -> &'r mut [u8]
+        ensures size { length result.now ≡ self.now.size }
+        ensures bytes { IsAsLent result.now 0 self.now.fill self.now.was.now }
+    {
+        let size = self.size;
+        let room = &mut space[..size];
+        let kept = self.was.len().min(size);
+        room.fill(self.fill);
+        room[..kept].copy_from_slice(&self.was[..kept]);
+        room
+    }
+
+    // Whether every byte of the room from a place on is as it was lent.
+    pub fn is_left(&self, room: &[u8], from: usize) -> bool
+        ensures { Decides result (IsAsLent room.now from self.now.fill self.now.was.now) }
+    {
+        for (place, byte) in room.iter().enumerate() {
+            if from <= place && *byte != self.byte_at(place) {
+                return false;
+            }
+        }
+        true
+    }
+
+    // The byte that a room is lent with at a place.
+    fn byte_at(&self, place: usize) -> u8
+        ensures { result ≡ lent_byte self.now.fill self.now.was.now place }
+    {
+        self.was.get(place).copied().unwrap_or(self.fill)
+    }
 }
 
 // The bytes of a room that a number of places or pairs takes, or all that it has.
-pub fn taken(room: &[u8], count: usize) -> usize {
-    if count <= room.len() / PLACE {
-        PLACE * count
-    } else {
-        room.len()
-    }
-}
-
-// The byte that a key has.
-fn fill_of(values: &[usize; VALUES], key: usize) -> u8 {
-    let number = number_of(values, key);
-    if number < 256 { number as u8 } else { 0 }
-}
-
-// Lays each byte of a room.
-fn lay_bytes(room: &mut [u8], fill: u8, earlier: &[u8]) {
-    let mut at = 0;
-    while at < room.len() {
-        room[at] = lent(fill, earlier, at);
-        at += 1;
-    }
-}
-
-// Whether each byte of a room from a place on is the one that was laid.
-fn same_bytes(room: &[u8], from: usize, fill: u8, earlier: &[u8]) -> bool {
-    let mut at = from;
-    while at < room.len() {
-        if room[at] != lent(fill, earlier, at) {
-            return false;
-        }
-        at += 1;
-    }
-    true
-}
-
-// The byte that a room is lent with at a place.
-fn lent(fill: u8, earlier: &[u8], at: usize) -> u8 {
-    if at < earlier.len() {
-        earlier[at]
-    } else {
-        fill
-    }
+pub fn taken(room: &[u8], count: usize) -> usize
+    ensures { result ≡ taken_of room.now count }
+{
+    count.saturating_mul(PLACE).min(room.len())
 }

@@ -1,0 +1,3 @@
+pub mod GoesOn
+pub mod Reached
+pub mod Stands
