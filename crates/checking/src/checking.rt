@@ -16,7 +16,6 @@ use crate::failing::Failure;
 use crate::listing::Listed;
 use derivative::both::derive_both;
 use pairs::pair::PAIR;
-use store::interning::marked_at;
 use store::work::Work;
 
 // The list, for the opening pair of places x and y.
@@ -77,7 +76,7 @@ fn marks_agree(work: &Work<'_>, x: usize, y: usize) -> bool
     requires { (x < work.now.places) × (y < work.now.places) }
     ensures { result ≡ beq (marked (child (store_of work.now) x)) (marked (child (store_of work.now) y)) }
 {
-    marked_at(work.room, work.places, x) == marked_at(work.room, work.places, y)
+    work.marked(x) == work.marked(y)
 }
 
 // The pair numbered n, of places x and y, by each letter in turn.

@@ -13,7 +13,6 @@ use cards::examine::as_mark;
 use records::kind::Kind;
 use records::record::read;
 use refusals::refusal::Refusal;
-use store::interning::marked_at;
 use store::making::make;
 use store::room::NOTHING_PLACE;
 use store::work::Work;
@@ -76,7 +75,7 @@ fn visit(work: &Work<'_>, place: usize, letter: u8) -> Visited
             r.left as usize,
             r.right as usize,
             true,
-            marked_at(work.room, work.places, r.left as usize),
+            work.marked(r.left as usize),
         ),
         Kind::Repeat => Visited::Parts(r.left as usize, place, true, false),
         Kind::Unknown => Visited::Leaf(NOTHING_PLACE),

@@ -2,11 +2,10 @@
 // The definitions that its promise cites stand in specs/; specs/Lib.antt lists them.
 #![tactic(auto)]
 
-ghost use Rattle.std.specs.Prelude.{◌<◌, ◌≡◌, ◌≤◌};
+ghost use Rattle.std.specs.Prelude.{◌≡◌, ◌≤◌};
 ghost use Rattle.refusals.specs.Order.{Good};
-ghost use Rattle.records.specs.Record.{records, child};
+ghost use Rattle.records.specs.Record.{records};
 ghost use Rattle.cards.specs.Examine.{pattern_card};
-ghost use Rattle.cards.specs.Mark.{marked};
 ghost use Rattle.store.specs.Work.{store_of, space_of};
 ghost use Rattle.loading.specs.Loading.{load};
 ghost use Rattle.matching.specs.Fits.{follow_loaded};
@@ -19,7 +18,6 @@ use answers::Match;
 use loading::beginning::begin;
 use loading::entering::enter;
 use refusals::refusal::Refusal;
-use store::interning::marked_at;
 use store::work::Work;
 
 pub mod following;
@@ -51,13 +49,5 @@ fn judge(work: &mut Work<'_>, card: &[u8], word: &[u8]) -> Result<bool, Refusal>
 {
     let root = enter(work, card)?;
     let last = follow(work, root, word)?;
-    Ok(has_mark(work, last))
-}
-
-// What the mark of the record at a place says.
-fn has_mark(work: &Work<'_>, place: usize) -> bool
-    requires { place < work.now.places }
-    ensures { result ≡ marked (child (store_of work.now) place) }
-{
-    marked_at(work.room, work.places, place)
+    Ok(work.marked(last))
 }

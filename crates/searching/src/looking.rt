@@ -11,7 +11,6 @@ use crate::table::Table;
 use pairs::pair::{PAIR, Pair};
 use pairs::table::place;
 use refusals::refusal::Refusal;
-use store::interning::marked_at;
 use store::work::Work;
 
 // The pair of the places x and y, reached from the pair numbered `origin` by a letter.
@@ -29,8 +28,8 @@ pub fn look(
     ensures same_room { table.new.room.ghost_name ≡ table.old.room.ghost_name }
     ensures goes { Goes work.now table.old (look (pairs_of table.old.room.now) x y origin letter (found_word (table_of table.old) origin letter) (store_of work.now) (table_of table.old) work.now.budget) result work.now table.new }
 {
-    let left_has = marked_at(work.room, work.places, x);
-    let right_has = marked_at(work.room, work.places, y);
+    let left_has = work.marked(x);
+    let right_has = work.marked(y);
     if left_has != right_has {
         return Err(End::Different {
             origin,

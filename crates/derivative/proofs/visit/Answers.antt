@@ -5,8 +5,8 @@ use Rattle.derivative.specs.declared.Visited.TheVariants.{Leaf}
 use Rattle.derivative.proofs.Laws.Rooms.{children_lower, asked_by}
 use Rattle.derivative.proofs.visit.Goals as goal
 
-pub marked_at-requires-clause-place_lt_places : goal.marked_at-requires-clause-place_lt_places
-marked_at-requires-clause-place_lt_places c =
+pub marked-requires : goal.marked-requires
+marked-requires c =
     let a = c.args in
     let l = children_lower a.letter a.work.now.good a.place c.requires c.read-r.ensures c.from.ensures c.in-Sequence.is in
     omega (arith, l.left)
@@ -24,7 +24,7 @@ pub returns-in-Choice : goal.returns-in-Choice
 returns-in-Choice c = let a = c.args in asked_by a.letter a.work.now.good a.place c.requires c.read-r.ensures c.from.ensures c.in-Choice.is
 
 pub returns-in-Sequence : goal.returns-in-Sequence
-returns-in-Sequence c = let a = c.args in rw c.marked_at.ensures (asked_by a.letter a.work.now.good a.place c.requires c.read-r.ensures c.from.ensures c.in-Sequence.is)
+returns-in-Sequence c = let a = c.args in rw c.marked.ensures (asked_by a.letter a.work.now.good a.place c.requires c.read-r.ensures c.from.ensures c.in-Sequence.is)
 
 pub returns-in-Repeat : goal.returns-in-Repeat
 returns-in-Repeat c = let a = c.args in asked_by a.letter a.work.now.good a.place c.requires c.read-r.ensures c.from.ensures c.in-Repeat.is

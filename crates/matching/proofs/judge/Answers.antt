@@ -34,4 +34,4 @@ returns-clause-spent c = all_spent (entered (goal.at.returns-clause-spent c).In_
 
 pub returns-clause-judges : goal.returns-clause-judges
 returns-clause-judges c =
-    judges_mark (entered (goal.at.returns-clause-judges c).In_ok-root) c.follow.ensures.comes c.in_ok-last.was c.has_mark.ensures
+    judges_mark (entered (goal.at.returns-clause-judges c).In_ok-root) c.follow.ensures.comes c.in_ok-last.was c.marked.ensures

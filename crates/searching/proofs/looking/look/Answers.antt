@@ -10,21 +10,21 @@ returns-then-left_has-right_has-clause-goes c =
     let a = c.args in
     let call = looking a.work.now a.table.now c.requires.stand c.requires.tabled c.requires.origin_placed in
     rooms_go _
-    (look_differs call a.letter a.work.now.budget c.marked_at-left_has.ensures c.marked_at-right_has.ensures c.if-left_has-right_has.true)
+    (look_differs call a.letter a.work.now.budget c.marked-left_has.ensures c.marked-right_has.ensures c.if-left_has-right_has.true)
 
 pub returns-then-has-clause-goes : goal.returns-then-has-clause-goes
 returns-then-has-clause-goes c =
     let a = c.args in
     let call = looking a.work.now a.table.now c.requires.stand c.requires.tabled c.requires.origin_placed in
     rooms_go _
-    (look_stands call a.letter a.work.now.budget c.marked_at-left_has.ensures c.marked_at-right_has.ensures c.if-left_has-right_has.false c.has.ensures c.if-has.true)
+    (look_stands call a.letter a.work.now.budget c.marked-left_has.ensures c.marked-right_has.ensures c.if-left_has-right_has.false c.has.ensures c.if-has.true)
 
 pub returns-then-table-clause-goes : goal.returns-then-table-clause-goes
 returns-then-table-clause-goes c =
     let a = c.args in
     let call = looking a.work.now a.table.now c.requires.stand c.requires.tabled c.requires.origin_placed in
     rooms_go _
-    (look_full call a.letter a.work.now.budget c.marked_at-left_has.ensures c.marked_at-right_has.ensures c.if-left_has-right_has.false c.has.ensures c.if-has.false (omega arith))
+    (look_full call a.letter a.work.now.budget c.marked-left_has.ensures c.marked-right_has.ensures c.if-left_has-right_has.false c.has.ensures c.if-has.false (omega arith))
 
 pub invariant_of-table : goal.invariant_of-table
 invariant_of-table c =
@@ -32,7 +32,7 @@ invariant_of-table c =
     let call = looking a.work.now a.table.now c.requires.stand c.requires.tabled c.requires.origin_placed in
     record {
       good = look_leaves call a.letter a.work.now.budget c.ranges.letter.fits
-          (look_placed call a.letter a.work.now.budget c.marked_at-left_has.ensures c.marked_at-right_has.ensures c.if-left_has-right_has.false c.has.ensures c.if-has.false (omega arith) c.place.ensures);
+          (look_placed call a.letter a.work.now.budget c.marked-left_has.ensures c.marked-right_has.ensures c.if-left_has-right_has.false c.has.ensures c.if-has.false (omega arith) c.place.ensures);
     }
 
 pub returns-clause-goes : goal.returns-clause-goes
@@ -40,4 +40,4 @@ returns-clause-goes c =
     let a = c.args in
     let call = looking a.work.now a.table.now c.requires.stand c.requires.tabled c.requires.origin_placed in
     rooms_go _
-    (look_placed call a.letter a.work.now.budget c.marked_at-left_has.ensures c.marked_at-right_has.ensures c.if-left_has-right_has.false c.has.ensures c.if-has.false (omega arith) c.place.ensures)
+    (look_placed call a.letter a.work.now.budget c.marked-left_has.ensures c.marked-right_has.ensures c.if-left_has-right_has.false c.has.ensures c.if-has.false (omega arith) c.place.ensures)
