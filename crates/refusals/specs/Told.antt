@@ -1,5 +1,4 @@
 -- What the code answers of a standing: nothing where it is good, and else the refusal that has the number.
-use Rattle.std.specs.Prelude.{ℕ}
 use Rattle.std.specs.declared.result.Result.{Result}
 use Rattle.std.specs.declared.result.Result.TheVariants.{Ok, Err}
 use Rattle.refusals.specs.declared.refusal.Refusal.{Refusal}

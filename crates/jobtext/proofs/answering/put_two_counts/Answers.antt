@@ -1,6 +1,4 @@
 -- `put_two_counts` lays down one line behind the other.
-use native.Mathlib.Omega.{arith}
-use mathlib.Core.Path.{◌∙◌}
 use Rattle.text.specs.Ascii.{ascii}
 use Rattle.jobtext.specs.Answer.{two_counts}
 use Rattle.text.specs.Laws.Writing.{put_both}
