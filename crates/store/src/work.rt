@@ -1,5 +1,5 @@
 // What a call works with: the work room that it was lent, the places taken at the start of it, and the visits left of its budget. The store
-// that stands in the room is good.
+// that stands in the room is good. The room is the caller's and has its places at its start, with their number beside it: no heap.
 ghost use Rattle.store.specs.Good.{GoodStore};
 ghost use Rattle.store.specs.OneProof.{good_store_prop};
 
