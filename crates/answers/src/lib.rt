@@ -1,5 +1,7 @@
 // The answers of the three calls, declared once: the calls below the door give them, and the door hands them on as they are.
 // The paper's number and values for each case stand in specs/: Matching.antt, Comparing.antt and Checking.antt.
+// A refusal is told by its number and not as a `Refusal`, since callers are given these types as they are (README.md, "How to call it"), and the law
+// `tells_so` of Checking has an answer for every number.
 #![tactic(auto)]
 
 // The answer of `fits`, with these values in this order:

@@ -10,7 +10,7 @@ use records::record::{RECORD, Record, read};
 use refusals::limits::{MOST_PATTERN_RECORDS, MOST_PROOF_RECORDS};
 use refusals::refusal::Refusal;
 
-// A pattern card.
+// A pattern card. It and a proof card differ in one number, which is `examine`'s argument; each has its name, since document 01 names both.
 pub fn examine_pattern(card: &[u8]) -> Result<(), Refusal>
     ensures { standing_told result ≡ pattern_card card.now }
 {
@@ -103,7 +103,7 @@ fn mark_right(card: &[u8], r: Record) -> bool
     same_mark(r.mark, as_mark(has_empty(Kind::from(r.kind), left, right)))
 }
 
-// Whether a mark is the one wanted.
+// Whether a mark is the one wanted. It is a step of its own, so that a mark of 2 is seen to differ from 1.
 fn same_mark(mark: u8, wanted: u8) -> bool
     ensures { result ≡ eqb mark wanted }
 {

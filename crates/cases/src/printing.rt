@@ -23,7 +23,7 @@ pub fn said<W: Write>(
     Ok(Counts { places, visits })
 }
 
-// A refusal.
+// A refusal, by its number: the answers at the door tell it so.
 pub fn refused<W: Write>(output: &mut W, reason: u8) -> io::Result<()> {
     number(output, b"answer=refused reason=", u64::from(reason))
 }

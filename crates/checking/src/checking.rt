@@ -1,5 +1,6 @@
 // The checker's pass over the list, in its fixed order: the opening pair; then pair by pair in list order the marks, and the letters
 // ascending, for each the left derived, then the right.
+// That the listed pairs are mapped into the store is asked in words (`Inside`): it is a fact of both, and no type of one of them can say it.
 // The two places x and y stay two parameters: the definitions take them so, and a pair of them would be taken apart at each use.
 ghost use Rattle.std.specs.Prelude.{[], ◌∷◌, ◌<◌, ◌≡◌};
 ghost use Rattle.std.specs.Bool.{beq};

@@ -19,7 +19,8 @@ impl Listed<'_> {
     ghost use Rattle.pairs.specs.Room.{pairs_of};
     ghost use Rattle.checking.specs.Listed.{mapped_list};
 
-    // Whether the two places stand in the mapped list as a pair. Two places are compared as one number.
+    // Whether the two places stand in the mapped list as a pair. Two places are compared as one number. A table of pairs is looked through likewise
+    // (`stands_in` of pairs), but its pairs are read as they stand, and not mapped.
     pub fn stands_listed(self, x: u16, y: u16) -> bool
         ensures { result ≡ stands_in (mapped_list self.entry.map.now self.entry.list.now) x y }
     {

@@ -55,6 +55,7 @@ pub fn check_opened(
     ensures same_room { work.new.room.ghost_name ≡ work.old.room.ghost_name }
     ensures tells { Tells work.old (check_loaded (space_of work.old) letters.now (listed_pairs list.now) work.old.budget x y (load (space_of work.old) (store_of work.old) (records proof.now))) result work.new }
 {
+    // an array, long enough for every card: no heap
     let mut map = [0u16; MOST_PROOF_RECORDS];
     load(work, proof, &mut map)?;
     let listed = Listed { list, map: &map };

@@ -10,7 +10,8 @@ use records::record::RECORD;
 use refusals::refusal::Refusal;
 use store::room::wrong_room;
 
-// The first refusal, of two pattern cards, a proof card, a pair list and a work room of so many bytes.
+// The first refusal, of two pattern cards, a proof card, a pair list and a work room of so many bytes. Each call has its own order, one line a
+// refusal.
 pub fn standing(
     left: &[u8],
     right: &[u8],

@@ -8,7 +8,7 @@ use pairs::room::wrong_pair_room;
 use refusals::refusal::Refusal;
 use store::room::wrong_room;
 
-// The first refusal, of two cards, a work room and a pair room of so many bytes.
+// The first refusal, of two cards, a work room and a pair room of so many bytes. Each call has its own order, one line a refusal.
 pub fn standing(left: &[u8], right: &[u8], work: usize, pairs: usize) -> Result<(), Refusal>
     ensures { standing_told result ≡ compare_standing left.now right.now work pairs }
 {

@@ -7,7 +7,7 @@ ghost use Rattle.jobtext.specs.Told.{Lays, most_verdict, most_two_counts, most_t
 use crate::MOST_ANSWER;
 use text::writing::Writer;
 
-// A refusal, by its number.
+// A refusal, by its number: the answers at the door tell it so.
 pub fn lay_refusal(out: &mut [u8; MOST_ANSWER], number: u8) -> usize
     ensures { Lays out.old (refused_text number) result out.new }
 {

@@ -31,6 +31,7 @@ pub fn answer(text: &[u8], out: &mut [u8; MOST_ANSWER]) -> usize
     if MOST_JOB < text.len() {
         return lay_refusal(out, Refusal::JobForm.number());
     }
+    // arrays of the sizes that the program lends: no heap
     let mut left = [0u8; MOST_HEX];
     let mut second = [0u8; MOST_HEX];
     let mut work = [0u8; LENT_WORK];

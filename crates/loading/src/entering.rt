@@ -21,6 +21,7 @@ pub fn enter(work: &mut Work<'_>, card: &[u8]) -> Result<usize, Refusal>
     ensures inside { IfOk result (λ place. place < work.new.places) }
     ensures grows { work.old.places ≤ work.new.places }
 {
+    // an array, long enough for every card: no heap
     let mut map = [0u16; MOST_PATTERN_RECORDS];
     load(work, card, &mut map)?;
     Ok(map[card.len() / RECORD - 1] as usize)

@@ -8,7 +8,7 @@ use refusals::limits::MOST_WORD;
 use refusals::refusal::Refusal;
 use store::room::wrong_room;
 
-// The first refusal, of a card, a word of so many bytes and a work room of so many.
+// The first refusal, of a card, a word of so many bytes and a work room of so many. Each call has its own order, one line a refusal.
 pub fn standing(card: &[u8], word: usize, room: usize) -> Result<(), Refusal>
     ensures { standing_told result ≡ standing_of card.now word room }
 {

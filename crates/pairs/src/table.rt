@@ -20,7 +20,8 @@ pub fn stands_in(room: &[u8], pairs: usize, left: u16, right: u16) -> bool
     false
 }
 
-// The pair writer is lent the part of the room that starts at the first free pair.
+// The pair writer is lent the part of the room that starts at the first free pair. It is one line, and so is the record writer's: one for both would
+// be longer than the two.
 pub fn place(room: &mut [u8], pairs: usize, p: Pair)
     requires table_stands { TableStands room.old pairs }
     requires pairs_le_most_pairs { pairs ≤ most_pairs }

@@ -9,6 +9,7 @@ pub const RECORD: usize = 8;
 
 #[derive(Clone, Copy)]
 pub struct Record {
+    // a number, and no `Kind`: a card's byte may be any, and one that names no kind is told from another
     pub kind: u8,
     pub letter: u8,
     pub mark: u8,
@@ -17,7 +18,7 @@ pub struct Record {
     pub right: u16,
 }
 
-// The record numbered `at` of a run of records.
+// The record numbered `at` of a run of records. That it stands in the run is asked in words, here and below: a run is any slice, of a card or a room.
 pub fn read(run: &[u8], at: usize) -> Record
     requires { 8 * at + 8 ≤ length run.now }
     ensures { result ≡ record_at run.now at }
@@ -33,7 +34,7 @@ pub fn read(run: &[u8], at: usize) -> Record
     }
 }
 
-// The 8 bytes of a record as one number.
+// The 8 bytes of a record as one number, by which records are compared at once (docs/SPEED.md), and not field by field.
 pub fn number(r: Record) -> u64
     ensures { result ≡ number_of r }
 {

@@ -1,4 +1,5 @@
 // The fixed search: pairs in table order, for each the letters ascending, for each letter the left derived, then the right.
+// That the table is one over the store is asked in words (`Tabled`): it is a fact of both, and no type of one of them can say it.
 ghost use Rattle.std.specs.Prelude.{◌≡◌, ◌<◌, ◌≤◌};
 ghost use Rattle.store.specs.Work.{store_of, space_of};
 ghost use Rattle.pairs.specs.Room.{pairs_of};

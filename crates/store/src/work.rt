@@ -1,5 +1,6 @@
 // What a call works with: the work room that it was lent, the places taken at the start of it, and the visits left of its budget. The store
-// that stands in the room is good.
+// that stands in the room is good. The room is the caller's and has its places at its start, with their number beside it: no heap.
+// That a place is taken is asked in words wherever a place is given: it is a fact of the place and of this, and a type of one of them cannot say it.
 ghost use Rattle.store.specs.Good.{GoodStore};
 ghost use Rattle.store.specs.OneProof.{good_store_prop};
 

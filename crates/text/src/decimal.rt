@@ -11,7 +11,7 @@ pub fn value_of(digit: u8) -> Option<u32>
     }
 }
 
-// The number of one digit.
+// The number of one digit. With one digit more a number has another rule, no zero before, and a test of its own: two sentences of the form.
 pub fn first_digit(digit: u8, most: u32) -> Option<u32>
     ensures { Begins digit most result }
 {

@@ -17,7 +17,8 @@ impl Reader<'_> {
         Some(count)
     }
 
-    // A line of a number with this name.
+    // A line of a number with this name. It differs from a line in hex in what is read, and takes its room or its largest number: one for both would
+    // take a closure that says what it reads, and be longer than the two.
     pub fn number_line(&mut self, name: &[u8], most: u32) -> Option<u32>
         ensures same_text { self.new.text.now ≡ self.old.text.now }
         ensures reads { ReadsNumberLine self.old.text.now self.old.at name.now most result self.new.at }

@@ -48,7 +48,7 @@ impl<'a> Writer<'a> {
         }
     }
 
-    // A number in decimal: its tenth part, then its last digit.
+    // A number in decimal: its tenth part, then its last digit. `write!` does not promise how long it is, and the room is lent.
     pub fn decimal(&mut self, n: u64)
         requires { self.old.at + length (decimal n) ≤ length self.old.out.now }
         ensures same_room { self.new.out.ghost_name ≡ self.old.out.ghost_name }
@@ -61,7 +61,7 @@ impl<'a> Writer<'a> {
         self.put(&[b'0' + (n % 10) as u8]);
     }
 
-    // A line of a number with this name.
+    // A line of a number with this name. The three kinds of line differ in what stands behind the name, and each is three calls.
     pub fn number(&mut self, name: &[u8], n: u64)
         requires { self.old.at + length name.now + most_number ≤ length self.old.out.now }
         ensures same_room { self.new.out.ghost_name ≡ self.old.out.ghost_name }

@@ -10,7 +10,7 @@ use Rattle.loading.proofs.card.load.Goals as goal
 pub loop-at-init : goal.loop-at-init
 loop-at-init c = (
   at_first c.args.work.now.room.now c.args.work.now.places c.args.card.now c.args.map.now c.args.work.now.good c.requires
-      (λ i. (c.shared_slice_known-1.given i).fits),
+      (λ i. (c.type_inv.card i).fits),
   (refl, refl),
 )
 

@@ -10,7 +10,7 @@ load-requires c = loadable c.args.card.now _ c.requires refl
 
 pub returns-in_err-load-clause-grows : goal.returns-in_err-load-clause-grows
 returns-in_err-load-clause-grows c =
-    entered_grows c.args.work.now c.args.card.now (bytes_all c.args.card.now (λ i. (c.shared_slice_known-1.given i).fits)) c.requires
+    entered_grows c.args.work.now c.args.card.now (bytes_all c.args.card.now (λ i. (c.type_inv.card i).fits)) c.requires
     c.load.ensures.loads
 
 pub overflow_sub-result : goal.overflow_sub-result
@@ -21,15 +21,15 @@ bounds-map-card c = last_mapped c.args.card.now c.requires
 
 pub returns-clause-enters : goal.returns-clause-enters
 returns-clause-enters c =
-    entered_at c.args.work.now c.args.card.now (bytes_all c.args.card.now (λ i. (c.shared_slice_known-1.given i).fits)) c.requires
+    entered_at c.args.work.now c.args.card.now (bytes_all c.args.card.now (λ i. (c.type_inv.card i).fits)) c.requires
     c.load.ensures.loads c.load.new.map c.load.ensures.mapped c.in_ok-load.was
 
 pub returns-clause-inside : goal.returns-clause-inside
 returns-clause-inside c =
-    root_stands c.args.work.now c.args.card.now (bytes_all c.args.card.now (λ i. (c.shared_slice_known-1.given i).fits)) c.requires
+    root_stands c.args.work.now c.args.card.now (bytes_all c.args.card.now (λ i. (c.type_inv.card i).fits)) c.requires
     c.load.ensures.loads c.load.new.map c.load.ensures.mapped c.in_ok-load.was
 
 pub returns-clause-grows : goal.returns-clause-grows
 returns-clause-grows c =
-    entered_grows c.args.work.now c.args.card.now (bytes_all c.args.card.now (λ i. (c.shared_slice_known-1.given i).fits)) c.requires
+    entered_grows c.args.work.now c.args.card.now (bytes_all c.args.card.now (λ i. (c.type_inv.card i).fits)) c.requires
     c.load.ensures.loads

@@ -9,8 +9,8 @@ returns-in_err-x-clause-opens c =
     let told = err_from_is_err_and c.from_residual.result c.from_residual.ensures.1 in
     rw (told.1, told.2)
     (full_told c.args.left.now c.args.right.now c.args.work.now
-    (bytes_all c.args.left.now (λ i. (c.shared_slice_known-1.given i).fits))
-    (bytes_all c.args.right.now (λ i. (c.shared_slice_known-2-1.given i).fits))
+    (bytes_all c.args.left.now (λ i. (c.type_inv.left i).fits))
+    (bytes_all c.args.right.now (λ i. (c.type_inv.right i).fits))
     c.requires
     c.enter.ensures.enters
     c.in_err-x.was)
@@ -20,8 +20,8 @@ returns-in_err-y-clause-opens c =
     let told = err_from_is_err_and c.from_residual-in_err-y.result c.from_residual-in_err-y.ensures.1 in
     rw (told.1, told.2)
     (both_told c.args.left.now c.args.right.now c.args.work.now
-    (bytes_all c.args.left.now (λ i. (c.shared_slice_known-1.given i).fits))
-    (bytes_all c.args.right.now (λ i. (c.shared_slice_known-2-1.given i).fits))
+    (bytes_all c.args.left.now (λ i. (c.type_inv.left i).fits))
+    (bytes_all c.args.right.now (λ i. (c.type_inv.right i).fits))
     c.requires
     c.enter.ensures.enters
     c.in_ok-x.was
@@ -30,8 +30,8 @@ returns-in_err-y-clause-opens c =
 pub returns-clause-opens : goal.returns-clause-opens
 returns-clause-opens c =
     both_told c.args.left.now c.args.right.now c.args.work.now
-    (bytes_all c.args.left.now (λ i. (c.shared_slice_known-1.given i).fits))
-    (bytes_all c.args.right.now (λ i. (c.shared_slice_known-2-1.given i).fits))
+    (bytes_all c.args.left.now (λ i. (c.type_inv.left i).fits))
+    (bytes_all c.args.right.now (λ i. (c.type_inv.right i).fits))
     c.requires
     c.enter.ensures.enters
     c.in_ok-x.was

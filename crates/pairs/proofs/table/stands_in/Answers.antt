@@ -55,7 +55,7 @@ returns-then-places_at-wanted c =
     let s = c in
     let a = s.args in
     told-true a.room.now a.pairs a.left a.right
-    (bytes_all a.room.now (λ i. (c.shared_slice_known-1.given i).fits))
+    (bytes_all a.room.now (λ i. (c.type_inv.room i).fits))
     (omega arith)
     c.loop-at.at
     (omega arith)
