@@ -10,7 +10,7 @@ use Rattle.loading.proofs.beginning.begin.Goals as goal
 pub invariant_of-result : goal.invariant_of-result
 invariant_of-result c =
     record {
-      good = lent_fresh c.args.room.now (bytes_all c.args.room.now (λ i. (c.type_inv.room i).fits)) (legal_room _ c.requires)
+      good = lent_fresh c.args.room.now (bytes_all c.args.room.now (λ i. (c.slice_known-1.given i).fits)) (legal_room _ c.requires)
           c.fresh-places.ensures.room_after
           c.fresh-places.ensures.value;
     }
