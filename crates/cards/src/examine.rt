@@ -100,14 +100,7 @@ fn mark_right(card: &[u8], r: Record) -> bool
 {
     let left = marked_at(card, r.left as usize);
     let right = marked_at(card, r.right as usize);
-    same_mark(r.mark, as_mark(has_empty(Kind::from(r.kind), left, right)))
-}
-
-// Whether a mark is the one wanted. It is a step of its own, so that a mark of 2 is seen to differ from 1.
-fn same_mark(mark: u8, wanted: u8) -> bool
-    ensures { result ≡ eqb mark wanted }
-{
-    mark == wanted
+    r.mark == as_mark(has_empty(Kind::from(r.kind), left, right))
 }
 
 // What the mark of the record numbered `at` says; no where there is no such record.

@@ -35,6 +35,7 @@ pub fn check_cards(
     ensures same_room { work.new.room.ghost_name ≡ work.old.room.ghost_name }
     ensures tells { Tells work.old (check_opened (space_of work.old) (tried left.now right.now) (records proof.now) (listed_pairs list.now) work.old.budget (open_both (space_of work.old) (records left.now) (records right.now))) result work.new }
 {
+    // an array, long enough for every letter: no heap
     let mut space = [0u8; MOST_LETTERS];
     let letters = tried(left, right, &mut space);
     let (x, y) = open_both(work, left, right)?;

@@ -40,6 +40,7 @@ pub fn compare(
     if let Err(refusal) = standing(left, right, work.len(), pairs.len()) {
         return Comparison::Refused(refusal.number(), 0, 0, 0);
     }
+    // an array, long enough for every letter: no heap
     let mut space = [0u8; MOST_LETTERS];
     let letters = tried(left, right, &mut space);
     let mut working = begin(work, budget);

@@ -40,7 +40,7 @@ fn word_length(pairs: &[u8], placed: usize, from: usize) -> usize
 {
     let mut at = from;
     let mut count = 0;
-    // A `while`: each pair tells the one that it came from, down to number 0, and no index is counted.
+    // a `while`: each pair tells the one that it came from, so no range and no slice has these numbers
     while at != 0 {
         let p = read(pairs, at);
         at = p.origin as usize;
@@ -60,7 +60,7 @@ fn write_word(pairs: &[u8], placed: usize, from: usize, letter: u8, word: &mut [
     let mut end = size - 1;
     word[end] = letter;
     let mut at = from;
-    // A `while`: each pair tells the one that it came from, down to number 0, and no index is counted.
+    // a `while`: each pair tells the one that it came from, so no range and no slice has these numbers
     while at != 0 {
         let p = read(pairs, at);
         end -= 1;

@@ -29,7 +29,7 @@ pub fn read(run: &[u8], at: usize) -> Pair
     }
 }
 
-// Two places as one number of 32 bits, by which pairs are compared at once (docs/SPEED.md).
+// Two places as one number of 32 bits, by which pairs are compared at once (docs/PROMISES.md: "looked up as one number of 32 bits").
 pub fn both(left: u16, right: u16) -> u32
     ensures { result ≡ left + 65536 * right }
 {

@@ -1,6 +1,5 @@
 // Finding an identical record.
-// These stay on the room and its places, and not on `Work`: the store need not be good after any record is used or written, so what is
-// promised of any record could not be promised of `Work`.
+// On the room and its places, and not on `Work`, as `intern` asks it: the store need not be good after any record.
 ghost use Rattle.std.specs.Prelude.{◌≡◌, ℕ, ◌≤◌};
 ghost use Rattle.cards.specs.Standing.{ChildField, Obeys};
 ghost use Rattle.store.specs.Room.{store_in};

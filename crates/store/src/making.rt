@@ -21,7 +21,8 @@ pub enum Ruled {
     Merges,
 }
 
-// Making a record of the kind with this number and letter, with these children. The number may be any, as in `Makes`, and so it is no `Kind`.
+// Making a record of the kind with this number and letter, with these children. The number may be any, as in the definition, and so it is no `Kind`, here and
+// where it is handed on.
 pub fn make(
     room: &mut [u8],
     places: &mut usize,

@@ -1,6 +1,5 @@
 // Making a set: two of its kind, merged by rising place, each member once, and built from the last member backward.
-// These stay on the room and its places, and not on `Work`: the store need not be good after any record is used or written, so what is
-// promised of any record could not be promised of `Work`.
+// On the room and its places, and not on `Work`, as `make` asks it: the store need not be good after any record.
 ghost use Rattle.std.specs.Prelude.{◌≡◌, cond, ◌<◌, eqb};
 ghost use Rattle.store.specs.Room.{store_in, places_of};
 ghost use Rattle.store.specs.Making.{placed, put_before, set_of_both};

@@ -23,7 +23,7 @@ pub fn byte_of(high: u8, low: u8) -> Option<u8>
     Some(16 * first + second)
 }
 
-// The digit of a half of a byte: a byte of a text, which the library gives as a `char` alone.
+// The digit of a half of a byte, by the definition that the promises speak of.
 pub fn digit_of(half: u8) -> u8
     requires { half < 16 }
     ensures { result ≡ hex_digit half }

@@ -23,15 +23,6 @@ impl<'a> Reader<'a> {
         Reader { text, at: 0 }
     }
 
-    // A reader at a place in a text.
-    pub fn at(text: &'a [u8], place: usize) -> Self
-        requires { place ≤ length text.now }
-        ensures text { result.text.now ≡ text.now }
-        ensures place { result.at ≡ place }
-    {
-        Reader { text, at: place }
-    }
-
     // Whether the whole text is read.
     pub fn is_at_end(&self) -> bool
         ensures { result ≡ (self.now.at == length self.now.text.now) }
