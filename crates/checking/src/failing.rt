@@ -1,4 +1,4 @@
-// Why a list does not pass, and the answer that tells it.
+// Why a list does not pass.
 ghost use Rattle.std.specs.Prelude.{◌≡◌};
 ghost use Rattle.checking.specs.declared.failing.Failure.TheVariants.{Refused};
 

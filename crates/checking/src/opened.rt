@@ -16,7 +16,7 @@ use crate::checking::check_list;
 use crate::failing::Failure;
 use crate::listing::Listed;
 use loading::card::load;
-use pairs::letters::tried;
+use pairs::letters::letters_tried;
 use pairs::opening::open_both;
 use refusals::limits::{MOST_LETTERS, MOST_PROOF_RECORDS};
 use store::work::Work;
@@ -37,7 +37,7 @@ pub fn check_cards(
 {
     // an array, long enough for every letter: no heap
     let mut space = [0u8; MOST_LETTERS];
-    let letters = tried(left, right, &mut space);
+    let letters = letters_tried(left, right, &mut space);
     let (x, y) = open_both(work, left, right)?;
     check_opened(work, proof, list, letters, x, y)
 }

@@ -15,7 +15,7 @@ use crate::reading_off::tell_word;
 use crate::refusing::standing;
 use answers::Comparison;
 use loading::beginning::begin;
-use pairs::letters::tried;
+use pairs::letters::letters_tried;
 use pairs::opening::open_both;
 use refusals::limits::MOST_LETTERS;
 use searching::going::End;
@@ -42,7 +42,7 @@ pub fn compare(
     }
     // an array, long enough for every letter: no heap
     let mut space = [0u8; MOST_LETTERS];
-    let letters = tried(left, right, &mut space);
+    let letters = letters_tried(left, right, &mut space);
     let mut working = begin(work, budget);
     let mut table = Table::empty(pairs);
     match open_both(&mut working, left, right) {

@@ -6,4 +6,5 @@ pub mod Table
 pub mod Tried
 pub mod Opening
 pub mod OpeningRoom
+pub mod OpeningWork
 pub mod LegalRoom

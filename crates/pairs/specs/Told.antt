@@ -11,10 +11,14 @@ use Rattle.store.specs.Work.{Holds}
 use Rattle.loading.specs.Told.{Begun}
 use Rattle.pairs.specs.Opening.{Opening, opened, unopened, after_opening}
 
--- Both cards are in good standing and the call begins.
-pub record CanOpen (left right : List ℕ) (w : Work) : Type 0 where
+-- Both cards are in good standing.
+pub record GoodCards (left right : List ℕ) : Type 0 where
   pub left_good : pattern_card left ≡ Good
   pub right_good : pattern_card right ≡ Good
+
+-- And the call begins.
+pub record CanOpen (left right : List ℕ) (w : Work) : Type 0 where
+  pub cards : GoodCards left right
   pub begun : Begun w
 
 -- The places of the two roots, or the refusal that no place is free.

@@ -1,15 +1,16 @@
 // The letters tried.
-ghost use Rattle.std.specs.Prelude.{◌≡◌, ◌≤◌, length};
+ghost use Rattle.std.specs.Prelude.{◌≡◌, ◌≤◌, length, take};
 ghost use Rattle.pairs.specs.Tried.{mentioned, tried};
 ghost use Rattle.refusals.specs.Limits.{most_letters};
 
 use cards::letters::mentions;
 use refusals::limits::MOST_LETTERS;
 
-// The letters of either card, ascending; they are written into `letters`.
-pub fn tried<'a>(left: &[u8], right: &[u8], letters: &'a mut [u8]) -> &'a [u8]
+// Writes the letters of either card into `letters`, ascending, and answers how many there are.
+pub fn tried(left: &[u8], right: &[u8], letters: &mut [u8]) -> usize
     requires { most_letters ≤ length letters.old }
-    ensures { result.now ≡ tried left.now right.now }
+    ensures value { result ≡ length (tried left.now right.now) }
+    ensures letters_after { take result letters.new ≡ tried left.now right.now }
 {
     let mut count = 0;
     for at in 0..MOST_LETTERS {
@@ -19,7 +20,16 @@ pub fn tried<'a>(left: &[u8], right: &[u8], letters: &'a mut [u8]) -> &'a [u8]
             count += 1;
         }
     }
-    &letters[..count]
+    count
+}
+
+// The letters of either card, ascending, in the space that is lent for them.
+pub fn letters_tried<'a>(left: &[u8], right: &[u8], space: &'a mut [u8]) -> &'a [u8]
+    requires { most_letters ≤ length space.old }
+    ensures { result.now ≡ tried left.now right.now }
+{
+    let count = tried(left, right, space);
+    &space[..count]
 }
 
 // Whether a letter record of either card has the letter.

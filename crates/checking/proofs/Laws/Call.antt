@@ -71,7 +71,7 @@ module _ {left right : List ℕ} (lefts : Bytes left) (rights : Bytes right) {w 
   opening = open_both (space_of w) (records left) (records right)
 
   law : OpenLaw left right (space_of w) opening
-  law = open_law left right lefts rights (length w.room.now) can.left_good can.right_good legal
+  law = open_law left right lefts rights (length w.room.now) can.cards.left_good can.cards.right_good legal
 
   from_fresh : {store : List Record} → Kept (space_of w) fresh_store store → Kept (space_of w) (store_of w) store
   from_fresh k = rw can.begun.fresh k
@@ -161,7 +161,7 @@ module _ {left right proof list room : List ℕ} {budget : ℕ} {found : Result 
       as_long = ap length room_is ∙ length_fresh room (let a = (legal_room (length room) not_refused.room_legal).enough in omega arith)
 
       pub can_open : CanOpen left right w
-      can_open = record { left_good = not_refused.left_good; right_good = not_refused.right_good; begun = begun }
+      can_open = record { cards = record { left_good = not_refused.left_good; right_good = not_refused.right_good }; begun = begun }
 
       pub still_legal : wrong_room (length w.room.now) ≡ false
       still_legal = rw as_long not_refused.room_legal

@@ -7,7 +7,9 @@ use Rattle.language.proofs.Laws.Words.{bytes_all}
 use Rattle.refusals.specs.declared.refusal.Refusal.{Refusal}
 use Rattle.refusals.specs.Order.{Standing}
 use Rattle.refusals.specs.Told.{standing_told}
+use Rattle.records.specs.Record.{records}
 use Rattle.pairs.specs.Laws.LegalRoom.{legal_pair_room}
+use Rattle.pairs.specs.Laws.OpeningWork.{opens_fresh}
 use Rattle.comparing.specs.Compare.{compare_standing}
 use Rattle.comparing.proofs.Laws.Refusals.{Unrefused, unrefused}
 use Rattle.comparing.proofs.Laws.Calling.{Lent, refused_at_once, told_full, told_compared}
@@ -41,7 +43,7 @@ empty-table-requires c = (legal_pair_room _ (good c.standing.ensures c.in_defaul
 pub open_both-requires : goal.open_both-requires
 open_both-requires c =
     let u = good c.standing.ensures c.in_default.is in
-    record { left_good = u.left_good; right_good = u.right_good; begun = c.begin-working.ensures.begun }
+    record { left_good = u.left_good; right_good = u.right_good }
 
 pub returns-in-Ok : goal.returns-in-Ok
 returns-in-Ok c =
@@ -49,9 +51,9 @@ returns-in-Ok c =
     (lent {word = c.args.word.now} {budget = c.args.budget} (search rules) (search rules) (search rules) (search rules) c.standing.ensures)
     (ap standing_told c.in_default.is)
     c.begin-working.ensures.room_after
-    c.open_both.ensures.opens
+    (opens_fresh c.begin-working.ensures.begun (records c.args.left.now) (records c.args.right.now) c.open_both.ensures.opens)
     c.in-Ok.is
-    c.tried-letters.ensures
+    c.letters_tried-letters.ensures
     c.begin-working.ensures.budget
     c.empty-table.result
     c.empty-table.ensures.room_as_lent
@@ -65,7 +67,7 @@ returns-in-Err-open_both c =
     (lent {word = c.args.word.now} {budget = c.args.budget} (search rules) (search rules) (search rules) (search rules) c.standing.ensures)
     (ap standing_told c.in_default.is)
     c.begin-working.ensures.room_after
-    c.open_both.ensures.opens
+    (opens_fresh c.begin-working.ensures.begun (records c.args.left.now) (records c.args.right.now) c.open_both.ensures.opens)
     c.in-Err-open_both.is
     c.number-in-Err-open_both.ensures
     (search rules)

@@ -34,4 +34,4 @@ pub returns : goal.returns
 returns c =
     let a = c.args in
     let told = all_written a.left.now a.right.now c.loop-at.invariant (omega arith) in
-    told.1
+    record { value = told.0; letters_after = told.1 }

@@ -1,7 +1,7 @@
 -- `open_both` enters the left card, then the right: the right card goes on from the store that the left card leaves.
 use Rattle.std.proofs.lemmas.Result.{err_from_is_err_and}
 use Rattle.language.proofs.Laws.Words.{bytes_all}
-use Rattle.pairs.specs.Laws.OpeningRoom.{right_at, right_full, both_told, full_told}
+use Rattle.pairs.specs.Laws.OpeningWork.{right_at, right_full, both_told, full_told}
 use Rattle.pairs.proofs.opening.open_both.Goals as goal
 
 pub returns-in_err-x-clause-opens : goal.returns-in_err-x-clause-opens
