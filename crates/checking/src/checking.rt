@@ -80,7 +80,8 @@ fn marks_agree(work: &Work<'_>, x: usize, y: usize) -> bool
     work.marked(x) == work.marked(y)
 }
 
-// The pair numbered n, of places x and y, by each letter in turn.
+// The pair numbered n, of places x and y, by each letter in turn. The search goes by each letter too (`by_letters`), but it enters the pair
+// that it comes to, which here must stand in the list: other rooms, other ends, and one loop.
 fn check_letters(
     work: &mut Work<'_>,
     listed: Listed<'_>,

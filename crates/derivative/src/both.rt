@@ -8,7 +8,8 @@ use crate::derive;
 use refusals::refusal::Refusal;
 use store::work::Work;
 
-// Both derived places.
+// Both derived places. Shaped like `open_both` of pairs, with another call in its middle and another promise: a function lent the call would
+// have a longer contract than both.
 pub fn derive_both(
     work: &mut Work<'_>,
     x: usize,

@@ -28,7 +28,7 @@ pub fn lay_match(out: &mut [u8; MOST_ANSWER], verdict: &[u8], places: usize, vis
     writer.at
 }
 
-// "Same", with the three counts.
+// "Same", with the three counts. Beside `lay_match` it has a fixed verdict and one line more, in its own order.
 pub fn lay_same(out: &mut [u8; MOST_ANSWER], pairs: usize, places: usize, visits: u32) -> usize
     ensures { Lays out.old (same_text pairs places visits) result out.new }
 {

@@ -10,7 +10,7 @@ use loading::entering::enter;
 use refusals::refusal::Refusal;
 use store::work::Work;
 
-// The places of the two roots, which are the opening pair.
+// The places of the two roots, which are the opening pair. Shaped like `derive_both` of derivative; it says why they stay two.
 pub fn open_both(work: &mut Work<'_>, left: &[u8], right: &[u8]) -> Result<(usize, usize), Refusal>
     requires { GoodCards left.now right.now }
     ensures same_room { work.new.room.ghost_name ≡ work.old.room.ghost_name }
