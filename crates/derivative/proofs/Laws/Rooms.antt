@@ -18,10 +18,10 @@ use Rattle.store.specs.Work.{store_of, space_of}
 use Rattle.store.specs.Told.{Makes}
 use Rattle.store.specs.Room.{store_in, places_of, laid}
 use Rattle.store.specs.Making.{Making, placed, full, make}
-use Rattle.store.specs.Good.{GoodStore}
+use Rattle.store.specs.Good.{GoodStore, Makeable}
 use Rattle.store.proofs.Laws.Room.{laid_same, laid_laid, child_in_room}
 use Rattle.store.specs.Laws.Wall.{Ready, Kept}
-use Rattle.store.proofs.Laws.Wall.{grows_length, kept_refl, kept_trans, Makeable}
+use Rattle.store.proofs.Laws.Wall.{grows_length, kept_refl, kept_trans}
 use Rattle.store.proofs.Laws.GoodRoom.{room_ready, length_store_in, places_after, store_after, good_after}
 use Rattle.derivative.proofs.Laws.Told.{Derived}
 use Rattle.derivative.proofs.Laws.Told.{At, Stopped}

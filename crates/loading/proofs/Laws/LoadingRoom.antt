@@ -25,11 +25,11 @@ use Rattle.store.specs.Room.{store_in, places_of, laid}
 use Rattle.store.specs.Making.{Making, make, after}
 use Rattle.loading.specs.Loading.{Loading, loaded, child_place, left_place, right_place, make_loaded, load_after, load, after_loading}
 use Rattle.loading.specs.Told.{Mapped}
-use Rattle.store.specs.Good.{GoodStore}
+use Rattle.store.specs.Good.{GoodStore, Makeable}
 use Rattle.loading.specs.Told.{Loadable}
 use Rattle.store.proofs.Laws.Room.{laid_same, laid_laid}
 use Rattle.store.specs.Laws.Wall.{Kept}
-use Rattle.store.proofs.Laws.Wall.{grows_length, kept_refl, kept_trans, Makeable, MakeLaw, was_placed, was_full}
+use Rattle.store.proofs.Laws.Wall.{grows_length, kept_refl, kept_trans, MakeLaw, was_placed, was_full}
 use Rattle.store.proofs.Laws.Making.{make_law}
 use Rattle.loading.proofs.Laws.Loading.{GoodCard, Standing, go_on, can, next_standing}
 use Rattle.store.proofs.Laws.GoodRoom.{room_ready, length_store_in, places_after, store_after, good_after}
