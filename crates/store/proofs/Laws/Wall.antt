@@ -11,7 +11,6 @@ use Rattle.language.specs.Language.{Equal}
 use Rattle.records.specs.declared.record.Record.{Record}
 use Rattle.records.specs.Kind.{kind_of}
 use Rattle.store.specs.Making.{Making, placed, full, make, after}
-use Rattle.store.specs.Good.{Makeable}
 use Rattle.store.specs.Laws.Wall.{Grows, Ready, Kept}
 use Rattle.store.proofs.Laws.Languages.{language_at, operator_over, language_kept}
 

@@ -6,10 +6,10 @@ pub make-requires-clause-children_stand : goal.make-requires-clause-children_sta
 make-requires-clause-children_stand c = children_stand c.args.self.now.good c.requires
 
 pub invariant_of-self : goal.invariant_of-self
-invariant_of-self c = record { good = made_good c.args.self.now.good c.requires c.make.ensures }
+invariant_of-self c = record { good = made_good c.args.self.now.good c.requires (rw c.number.ensures at c.make.ensures) }
 
 pub returns-clause-inside : goal.returns-clause-inside
-returns-clause-inside c = made_inside c.args.self.now.good c.requires c.make.ensures
+returns-clause-inside c = made_inside c.args.self.now.good c.requires (rw c.number.ensures at c.make.ensures)
 
 pub returns-clause-grows : goal.returns-clause-grows
-returns-clause-grows c = made_grows c.args.self.now.good c.requires c.make.ensures
+returns-clause-grows c = made_grows c.args.self.now.good c.requires (rw c.number.ensures at c.make.ensures)
