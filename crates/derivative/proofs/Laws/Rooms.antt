@@ -15,9 +15,7 @@ use Rattle.cards.specs.Mark.{marked}
 use Rattle.cards.specs.Standing.{LineOf, Line}
 use Rattle.store.specs.declared.work.Work.{Work}
 use Rattle.store.specs.Work.{store_of, space_of}
-use Rattle.store.specs.Told.{Makes}
 use Rattle.store.specs.Room.{store_in, places_of, laid}
-use Rattle.store.specs.Making.{Making, placed, full, make}
 use Rattle.store.specs.Good.{GoodStore, Makeable}
 use Rattle.store.proofs.Laws.Room.{laid_same, laid_laid, child_in_room}
 use Rattle.store.specs.Laws.Wall.{Ready, Kept}
@@ -197,7 +195,7 @@ module _ {room : List ℕ} {places : ℕ} (good : GoodStore room places) where
       }
 
 -- A sequence or a choice can be made of any two places that are taken.
-module _ {room : List ℕ} {places : ℕ} {x y : ℕ} (inside : (x < places) × (y < places)) where
+module _ (room : List ℕ) {places x y : ℕ} (inside : (x < places) × (y < places)) where
   pub sequence_makeable : Makeable (store_in room places) sequence_kind 0 x y
   sequence_makeable = two_makeable sequence_kind refl (in_store room inside.0) (in_store room inside.1)
 

@@ -1,5 +1,4 @@
 -- `choice_of` makes the choice, and takes nothing from the budget.
-use mathlib.Core.Path.{refl}
 use Rattle.records.specs.Kind.{choice_kind}
 use Rattle.store.specs.Making.{make}
 use Rattle.store.specs.Work.{store_of, space_of}
@@ -8,7 +7,7 @@ use Rattle.derivative.proofs.Laws.Rooms.{choice_makeable}
 use Rattle.derivative.proofs.choice_of.Goals as goal
 
 pub make-requires : goal.make-requires
-make-requires c = choice_makeable c.requires
+make-requires c = choice_makeable c.args.work.now.room.now c.requires
 
 pub returns-clause-comes : goal.returns-clause-comes
 returns-clause-comes c =

@@ -1,5 +1,4 @@
 -- `product_of` makes the product where it is asked for, and else leaves the room as it is.
-use mathlib.Core.Path.{refl}
 use Rattle.std.specs.declared.result.Result.TheVariants.{Ok}
 use Rattle.records.specs.Kind.{sequence_kind}
 use Rattle.store.specs.Making.{make}
@@ -9,7 +8,7 @@ use Rattle.derivative.proofs.Laws.Rooms.{sequence_makeable, product_unasked}
 use Rattle.derivative.proofs.product_of.Goals as goal
 
 pub make-requires : goal.make-requires
-make-requires c = sequence_makeable c.requires
+make-requires c = sequence_makeable c.args.work.now.room.now c.requires
 
 pub returns-then-product-clause-comes : goal.returns-then-product-clause-comes
 returns-then-product-clause-comes c =

@@ -2,6 +2,7 @@
 -- begin the map are those from which the definition loads the rest; where no place is free, the loading stops with the same store.
 use native.Mathlib.Omega.{arith}
 use Rattle.std.specs.Prelude.{refl}
+use Rattle.std.proofs.Common.{◌∙◌}
 use Rattle.std.proofs.lemmas.Result.{err_from_is_err_and}
 use Rattle.loading.proofs.Laws.Told.{told_loads, told_not_loaded}
 use Rattle.loading.proofs.Laws.LoadingRoom.{at_first, at_last, left_mapped, right_mapped, can_make, place_fits, when_full, when_placed}
@@ -38,7 +39,7 @@ returns-in_err-place-clause-loads c =
     c.child_place-right.ensures
     c.make.ensures.makes
     c.in_err-place.was in
-    rw (told.1, told.2, full.0) (told_not_loaded _ full.1.0 full.1.1.0 c.loop-at.invariant.1.1)
+    rw (told.1, told.2, full.0) (told_not_loaded _ full.1.0 full.1.1.0 (c.make.ensures.unspent ∙ c.loop-at.invariant.1.1))
 
 pub returns-in_err-place-clause-mapped : goal.returns-in_err-place-clause-mapped
 returns-in_err-place-clause-mapped c =
@@ -72,7 +73,7 @@ loop-at-preserved c =
     c.child_place-right.ensures
     c.make.ensures.makes
     c.in_ok-place.was in
-    (next, c.loop-at.invariant.1)
+    (next, (c.make.ensures.same_room ∙ c.loop-at.invariant.1.0, c.make.ensures.unspent ∙ c.loop-at.invariant.1.1))
 
 pub returns-clause-loads : goal.returns-clause-loads
 returns-clause-loads c =
