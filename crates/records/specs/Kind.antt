@@ -6,7 +6,7 @@
 --   3     choice      0       child  child
 --   4     sequence    0       child  child
 --   5     repeat      0       child  0
-use Rattle.std.specs.Prelude.{ℕ, Bool, true, false, List, [], ◌∷◌, get_or, length}
+use Rattle.std.specs.Prelude.{ℕ, Bool, true, false, List, [], ◌∷◌, get_or}
 use Rattle.records.specs.declared.kind.Kind.{Kind}
 use Rattle.records.specs.declared.kind.Kind.TheVariants.{Nothing, EmptyWord, Letter, Choice, Sequence, Repeat, Unknown}
 use Rattle.records.specs.declared.kind.Columns.{Columns}
@@ -37,16 +37,6 @@ kinds = Nothing ∷ EmptyWord ∷ Letter ∷ Choice ∷ Sequence ∷ Repeat ∷ 
 -- The kind that a number names.
 abbrev pub kind_of : ℕ → Kind
 kind_of number = get_or kinds number Unknown
-
--- The number of a kind; `Unknown`, which is of every other number, has the first that names none.
-abbrev pub number : Kind → ℕ
-number Nothing = nothing_kind
-number EmptyWord = empty_word_kind
-number Letter = letter_kind
-number Choice = choice_kind
-number Sequence = sequence_kind
-number Repeat = repeat_kind
-number Unknown = length kinds
 
 -- What a line says of a field: it is 0, it is any byte, it names a child.
 abbrev zero : Bool

@@ -1,6 +1,7 @@
 // The kinds of record, and document 01's kind table: what each kind's record has in its letter, left and right fields.
 ghost use Rattle.std.specs.Prelude.{◌≡◌};
-ghost use Rattle.records.specs.Kind.{kind_of, number, line, columns};
+ghost use Rattle.records.specs.Kind.{kind_of, line, columns};
+ghost use Rattle.records.specs.Number.{number};
 
 // The kinds have their numbers in the table; `Unknown` is of every other number.
 #[derive(Clone, Copy, PartialEq, Eq)]

@@ -20,7 +20,7 @@ pub struct Work<'a> {
 impl Work<'_> {
     ghost use Rattle.std.specs.Prelude.{◌≡◌, ◌<◌, ◌≤◌, IfOk};
     ghost use Rattle.records.specs.Record.{child};
-    ghost use Rattle.records.specs.Kind.{number};
+    ghost use Rattle.records.specs.Number.{number};
     ghost use Rattle.cards.specs.Mark.{marked};
     ghost use Rattle.store.specs.Making.{make};
     ghost use Rattle.store.specs.Told.{Makes};

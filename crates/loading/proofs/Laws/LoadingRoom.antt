@@ -10,7 +10,8 @@ use Rattle.records.specs.declared.kind.Kind.{Kind}
 use Rattle.records.specs.declared.kind.Columns.{Columns}
 use Rattle.records.specs.declared.record.Record.{Record}
 use Rattle.records.specs.Record.{record_at, records, no_record, child}
-use Rattle.records.specs.Kind.{kind_of, number, columns}
+use Rattle.records.specs.Kind.{kind_of, columns}
+use Rattle.records.specs.Number.{number}
 use Rattle.records.specs.Laws.Kind.{number_of_kind}
 use Rattle.cards.specs.Standing.{ChildField, Line}
 use Rattle.cards.proofs.Laws.Line.{lower_left, lower_right, field_same}

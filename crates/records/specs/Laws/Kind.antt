@@ -6,7 +6,8 @@ use Rattle.std.proofs.lemmas.Bool.{false≢true}
 use Rattle.std.proofs.Math.ListN.{get_or-eq_default}
 use Rattle.records.specs.declared.kind.Kind.{Kind}
 use Rattle.records.specs.declared.kind.Kind.TheVariants.{Unknown}
-use Rattle.records.specs.Kind.{kinds, kind_of, number, columns}
+use Rattle.records.specs.Kind.{kinds, kind_of, columns}
+use Rattle.records.specs.Number.{number}
 
 -- A number with a line in the table is one of the table's.
 pub known_number : (n : ℕ) → (columns (kind_of n)).known ≡ true → n < length kinds
