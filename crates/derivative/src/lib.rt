@@ -13,7 +13,6 @@ use cards::examine::as_mark;
 use records::kind::Kind;
 use records::record::read;
 use refusals::refusal::Refusal;
-use store::making::make;
 use store::room::NOTHING_PLACE;
 use store::work::Work;
 
@@ -125,14 +124,7 @@ fn product_of(work: &mut Work<'_>, x: usize, right: usize, product: bool) -> Res
     ensures comes { Comes work.old (of_making (product_of (space_of work.old) (store_of work.old) x right product) work.old.budget) result work.new }
 {
     if product {
-        make(
-            work.room,
-            &mut work.places,
-            Kind::Sequence as u8,
-            0,
-            x,
-            right,
-        )
+        work.make(Kind::Sequence, 0, x, right)
     } else {
         Ok(x)
     }
@@ -165,5 +157,5 @@ fn choice_of(work: &mut Work<'_>, x: usize, y: usize) -> Result<usize, Refusal>
     ensures same_room { work.new.room.ghost_name ≡ work.old.room.ghost_name }
     ensures comes { Comes work.old (making (space_of work.old) choice_kind x y (store_of work.old) work.old.budget) result work.new }
 {
-    make(work.room, &mut work.places, Kind::Choice as u8, 0, x, y)
+    work.make(Kind::Choice, 0, x, y)
 }

@@ -8,7 +8,6 @@ ghost use Rattle.loading.specs.Told.{Loadable, Mapped, Loads};
 use records::kind::{Kind, columns_of};
 use records::record::{RECORD, read};
 use refusals::refusal::Refusal;
-use store::making::make;
 use store::work::Work;
 
 // Makes the records of a card in order. The place of each goes into `map`.
@@ -20,10 +19,11 @@ pub fn load(work: &mut Work<'_>, card: &[u8], map: &mut [u16]) -> Result<(), Ref
 {
     for at in 0..card.len() / RECORD {
         let r = read(card, at);
-        let line = columns_of(Kind::from(r.kind));
+        let kind = Kind::from(r.kind);
+        let line = columns_of(kind);
         let left = child_place(line.left, map, r.left as usize);
         let right = child_place(line.right, map, r.right as usize);
-        let place = make(work.room, &mut work.places, r.kind, r.letter, left, right)?;
+        let place = work.make(kind, r.letter, left, right)?;
         map[at] = place as u16;
     }
     Ok(())

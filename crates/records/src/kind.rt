@@ -1,6 +1,7 @@
 // The kinds of record, and document 01's kind table: what each kind's record has in its letter, left and right fields.
 ghost use Rattle.std.specs.Prelude.{◌≡◌};
 ghost use Rattle.records.specs.Kind.{kind_of, line, columns};
+ghost use Rattle.records.specs.Number.{number};
 
 // The kinds have their numbers in the table; `Unknown` is of every other number.
 #[derive(Clone, Copy, PartialEq, Eq)]
@@ -12,6 +13,15 @@ pub enum Kind {
     Sequence = 4,
     Repeat = 5,
     Unknown = 6,
+}
+
+impl Kind {
+    // The number of the kind.
+    pub fn number(self) -> u8
+        ensures { result ≡ number self }
+    {
+        self as u8
+    }
 }
 
 // The kind that a number names.

@@ -21,3 +21,4 @@ pub mod GoodRoom
 pub mod SomeWord
 pub mod LegalRoom
 pub mod MergingRoom
+pub mod MakingRoom

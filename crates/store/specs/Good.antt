@@ -10,9 +10,9 @@ use Rattle.records.specs.Record.{child}
 use Rattle.records.specs.Kind.{kind_of}
 use Rattle.cards.specs.Mark.{bit}
 use Rattle.cards.specs.Meaning.{patterns, numbered}
-use Rattle.cards.specs.Standing.{Obeys}
+use Rattle.cards.specs.Standing.{Line, Obeys}
 use Rattle.store.specs.Room.{store_in, nothing_record, empty_word_record}
-use Rattle.store.specs.Making.{Making, placed, nothing_place, empty_word_place, make, is_kind, members}
+use Rattle.store.specs.Making.{Making, placed, nothing_place, empty_word_place, new_record, make, is_kind, members}
 
 -- Making a record again from its own kind, letter and children.
 abbrev pub make_again : ℕ → List Record → Record → Making
@@ -63,3 +63,8 @@ pub record GoodStore (room : List ℕ) (places : ℕ) : Type 0 where
   pub fits : 8 * places ≤ length room
   pub short : length room ≤ 8 * most_places
   pub good : Good (store_in room places)
+
+-- What can be made: a record that obeys the kind table at the first free place, with a letter that is a byte.
+pub record Makeable (store : List Record) (kind letter left right : ℕ) : Type 0 where
+  pub line : Line (length store) (new_record store kind letter left right)
+  pub byte : letter < 256

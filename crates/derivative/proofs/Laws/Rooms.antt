@@ -15,13 +15,11 @@ use Rattle.cards.specs.Mark.{marked}
 use Rattle.cards.specs.Standing.{LineOf, Line}
 use Rattle.store.specs.declared.work.Work.{Work}
 use Rattle.store.specs.Work.{store_of, space_of}
-use Rattle.store.specs.Told.{Makes}
 use Rattle.store.specs.Room.{store_in, places_of, laid}
-use Rattle.store.specs.Making.{Making, placed, full, make}
-use Rattle.store.specs.Good.{GoodStore}
+use Rattle.store.specs.Good.{GoodStore, Makeable}
 use Rattle.store.proofs.Laws.Room.{laid_same, laid_laid, child_in_room}
 use Rattle.store.specs.Laws.Wall.{Ready, Kept}
-use Rattle.store.proofs.Laws.Wall.{grows_length, kept_refl, kept_trans, Makeable}
+use Rattle.store.proofs.Laws.Wall.{grows_length, kept_refl, kept_trans}
 use Rattle.store.proofs.Laws.GoodRoom.{room_ready, length_store_in, places_after, store_after, good_after}
 use Rattle.derivative.proofs.Laws.Told.{Derived}
 use Rattle.derivative.proofs.Laws.Told.{At, Stopped}
@@ -196,24 +194,13 @@ module _ {room : List ℕ} {places : ℕ} (good : GoodStore room places) where
         leaves = sym (laid_same places room good.fits good.bytes);
       }
 
--- What a making leaves in a room is good again, whether it came to a place or found none free.
-made_good : {room : List ℕ} {places : ℕ} → GoodStore room places → (m : Making) (budget : ℕ) → Keeps (places_of room) (store_in room places) (of_making m budget)
-    → {answer : Result ℕ Refusal} {room' : List ℕ} {places' : ℕ} → Makes room m answer room' places' → GoodStore room' places'
-made_good {room} good (placed place store) budget (derives k l) made = rw (made.leaves, made.taken) (good_after room k good)
-made_good {room} good (full store) budget (stops k) made = rw (made.leaves, made.taken) (good_after room k good)
+-- A sequence or a choice can be made of any two places that are taken.
+module _ (room : List ℕ) {places x y : ℕ} (inside : (x < places) × (y < places)) where
+  pub sequence_makeable : Makeable (store_in room places) sequence_kind 0 x y
+  sequence_makeable = two_makeable sequence_kind refl (in_store room inside.0) (in_store room inside.1)
 
-module _ {room : List ℕ} {places : ℕ} (good : GoodStore room places) {x y : ℕ} (inside : (x < places) × (y < places)) where
-  pub sequence_good : {answer : Result ℕ Refusal} {room' : List ℕ} {places' : ℕ}
-      → Makes room (make (places_of room) (store_in room places) sequence_kind 0 x y) answer room' places' → GoodStore room' places'
-  sequence_good made =
-      made_good good (make (places_of room) (store_in room places) sequence_kind 0 x y) 0
-      (sequence_keeps (room_ready good) x y (in_store room inside.0) (in_store room inside.1) 0) made
-
-  pub choice_good : {answer : Result ℕ Refusal} {room' : List ℕ} {places' : ℕ}
-      → Makes room (make (places_of room) (store_in room places) choice_kind 0 x y) answer room' places' → GoodStore room' places'
-  choice_good made =
-      made_good good (make (places_of room) (store_in room places) choice_kind 0 x y) 0
-      (choice_keeps (room_ready good) x y (in_store room inside.0) (in_store room inside.1) 0) made
+  pub choice_makeable : Makeable (store_in room places) choice_kind 0 x y
+  choice_makeable = two_makeable choice_kind refl (in_store room inside.0) (in_store room inside.1)
 
 -- What each function of the code ensures of a room with a store of so many places, of its answer and of the room that it leaves.
 module _ (letter : ℕ) (room : List ℕ) (places : ℕ) where

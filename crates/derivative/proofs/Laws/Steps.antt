@@ -8,8 +8,9 @@ use Rattle.records.specs.declared.record.Record.{Record}
 use Rattle.records.specs.Kind.{kind_of, columns}
 use Rattle.cards.specs.Standing.{LineOf}
 use Rattle.store.specs.Making.{Making, new_record}
+use Rattle.store.specs.Good.{Makeable}
 use Rattle.store.specs.Laws.Wall.{Ready, Kept}
-use Rattle.store.proofs.Laws.Wall.{kept_refl, kept_trans, Course, course_legs, course_same, Makeable, Placed, MakeLaw, was_placed, was_full, placed_again}
+use Rattle.store.proofs.Laws.Wall.{kept_refl, kept_trans, Course, course_legs, course_same, Placed, MakeLaw, was_placed, was_full, placed_again}
 use Rattle.store.proofs.Laws.Making.{make_law}
 use Rattle.derivative.specs.Derivative.{Deriving, derived, stopped, and_then, of_making, making}
 

@@ -1,16 +1,15 @@
 -- `choice_of` makes the choice, and takes nothing from the budget.
-use mathlib.Core.Path.{refl}
 use Rattle.records.specs.Kind.{choice_kind}
 use Rattle.store.specs.Making.{make}
 use Rattle.store.specs.Work.{store_of, space_of}
 use Rattle.derivative.proofs.Laws.Told.{making_comes}
-use Rattle.derivative.proofs.Laws.Rooms.{choice_good}
+use Rattle.derivative.proofs.Laws.Rooms.{choice_makeable}
 use Rattle.derivative.proofs.choice_of.Goals as goal
 
-pub invariant_of-work : goal.invariant_of-work
-invariant_of-work c = record { good = choice_good c.args.work.now.good c.requires c.make.ensures }
+pub make-requires : goal.make-requires
+make-requires c = choice_makeable c.args.work.now.room.now c.requires
 
 pub returns-clause-comes : goal.returns-clause-comes
 returns-clause-comes c =
     let a = c.args in
-    making_comes (make (space_of a.work.now) (store_of a.work.now) choice_kind 0 a.x a.y) c.make.ensures refl
+    making_comes (make (space_of a.work.now) (store_of a.work.now) choice_kind 0 a.x a.y) c.make.ensures.makes c.make.ensures.unspent

@@ -18,8 +18,9 @@ use Rattle.cards.proofs.Laws.Line.{field_put, left_child, right_child}
 use Rattle.cards.proofs.Laws.Meaning.{pattern_of_record}
 use Rattle.store.specs.Making.{Making, placed, full, after, new_record}
 use Rattle.loading.specs.Loading.{Loading, loaded, no_room, child_place, left_place, right_place, make_loaded, load_after, load, after_loading}
+use Rattle.store.specs.Good.{Makeable}
 use Rattle.store.specs.Laws.Wall.{Grows, Ready, Kept}
-use Rattle.store.proofs.Laws.Wall.{grows_refl, grows_trans, grows_length, grows_language, kept_refl, kept_trans, Makeable, Placed, Longer, longer_grows, Outgrown, MakeLaw, was_placed}
+use Rattle.store.proofs.Laws.Wall.{grows_refl, grows_trans, grows_length, grows_language, kept_refl, kept_trans, Placed, Longer, longer_grows, Outgrown, MakeLaw, was_placed}
 use Rattle.store.proofs.Laws.Adding.{make_adds}
 use Rattle.store.proofs.Laws.Making.{make_law}
 use Rattle.store.proofs.Laws.Languages.{language_at, operator_over, language_of_operator, operator_equal, equal_of_path}

@@ -11,6 +11,8 @@ use Rattle.records.specs.declared.kind.Columns.{Columns}
 use Rattle.records.specs.declared.record.Record.{Record}
 use Rattle.records.specs.Record.{record_at, records, no_record, child}
 use Rattle.records.specs.Kind.{kind_of, columns}
+use Rattle.records.specs.Number.{number}
+use Rattle.records.specs.Laws.Kind.{number_of_kind}
 use Rattle.cards.specs.Standing.{ChildField, Line}
 use Rattle.cards.proofs.Laws.Line.{lower_left, lower_right, field_same}
 use Rattle.records.specs.Laws.Record.{record_at_place, length_records}
@@ -25,11 +27,11 @@ use Rattle.store.specs.Room.{store_in, places_of, laid}
 use Rattle.store.specs.Making.{Making, make, after}
 use Rattle.loading.specs.Loading.{Loading, loaded, child_place, left_place, right_place, make_loaded, load_after, load, after_loading}
 use Rattle.loading.specs.Told.{Mapped}
-use Rattle.store.specs.Good.{GoodStore}
+use Rattle.store.specs.Good.{GoodStore, Makeable}
 use Rattle.loading.specs.Told.{Loadable}
 use Rattle.store.proofs.Laws.Room.{laid_same, laid_laid}
 use Rattle.store.specs.Laws.Wall.{Kept}
-use Rattle.store.proofs.Laws.Wall.{grows_length, kept_refl, kept_trans, Makeable, MakeLaw, was_placed, was_full}
+use Rattle.store.proofs.Laws.Wall.{grows_length, kept_refl, kept_trans, MakeLaw, was_placed, was_full}
 use Rattle.store.proofs.Laws.Making.{make_law}
 use Rattle.loading.proofs.Laws.Loading.{GoodCard, Standing, go_on, can, next_standing}
 use Rattle.store.proofs.Laws.GoodRoom.{room_ready, length_store_in, places_after, store_after, good_after}
@@ -158,10 +160,6 @@ module _ {room₀ : List ℕ} {places : ℕ} {card room map : List ℕ} {taken a
     exit_is : {exit : List ℕ} (store' : List Record) → exit ≡ laid store' room → length store ≤ length store' → exit ≡ laid store' room₀
     exit_is store' x n = x ∙ ap (laid store') u.room_is ∙ laid_laid store store' room₀ n
 
-    making_kept : {m : Making} → Law m → Kept cap store (after m)
-    making_kept (was_placed p) = p.kept
-    making_kept (was_full q) = q.kept
-
     full_answers : {stood : ℕ} {told : Made} → told ≡ Full stood → {exit : List ℕ} {m : Making}
         → Law m → told ≡ told_making m → exit ≡ laid (after m) room → Goes m → Answers room₀ places card (AllFull stood) exit map
     full_answers t (was_placed p) w x g = absurd (not_both w t)
@@ -210,24 +208,23 @@ module _ {room₀ : List ℕ} {places : ℕ} {card room map : List ℕ} {taken a
       right_is : right ≡ right_place (take at map) r
       right_is = f' ∙ ap (λ (c : Columns). child_place c.right map r.right) columns_are ∙ same_place (columns (kind_of r.kind)).right r.right line.right
 
-      -- The record can be made, and its children's places are taken.
+      -- The record can be made.
       makeable : Makeable store r.kind r.letter left right
       makeable =
           rw (left_is, right_is)
           (can cap (records card) u.good_card store (take at map) (take at (records card)) r (drop (suc at) (records card))
           split as_many u.kept.ready u.standing)
 
-      pub children_taken : (left < taken) × (right < taken)
-      children_taken =
-          let some = u.kept.ready.good.some in
-          let t = u.taken_is in (
-            ⊎_elim (λ h. omega arith) (λ h. omega arith) (lower_left makeable.line),
-            ⊎_elim (λ h. omega arith) (λ h. omega arith) (lower_right makeable.line),
-          )
+      -- The code gives the kind that the record's number names, and that kind has this number.
+      kind_number : number k ≡ r.kind
+      kind_number = sym (number_of_kind r.kind line.known (sym e))
+
+      pub can_make : Makeable (store_in room taken) (number k) r.letter left right
+      can_make = rw (store_now, kind_number) makeable
 
       -- What the code makes is what the definition makes.
-      made_is : make (places_of room) (store_in room taken) r.kind r.letter left right ≡ make_loaded cap store (take at map) r
-      made_is = rw (places_now, store_now, left_is, right_is)
+      made_is : make (places_of room) (store_in room taken) (number k) r.letter left right ≡ make_loaded cap store (take at map) r
+      made_is = rw (places_now, store_now, kind_number, left_is, right_is)
 
       go_on_is : Goes (make_loaded cap store (take at map) r)
       unfolding load_after
@@ -238,18 +235,12 @@ module _ {room₀ : List ℕ} {places : ℕ} {card room map : List ℕ} {taken a
 
       -- What the code answers, of what the definition makes.
       module _ {answer : Result ℕ Refusal} {exit : List ℕ} {taken' : ℕ}
-          (makes : Makes room (make (places_of room) (store_in room taken) r.kind r.letter left right) answer exit taken') where
+          (makes : Makes room (make (places_of room) (store_in room taken) (number k) r.letter left right) answer exit taken') where
         told_is : made_of answer taken' ≡ told_making (make_loaded cap store (take at map) r)
         told_is = makes_told makes ∙ ap told_making made_is
 
         exit_made : exit ≡ laid (after (make_loaded cap store (take at map) r)) room
         exit_made = makes.leaves ∙ ap (λ (m : Making). laid (after m) room) made_is
-
-        -- The store that stands then is good again.
-        pub good_made : GoodStore exit taken'
-        good_made =
-            let kept : Kept (places_of room) store (after (make_loaded cap store (take at map) r)) = rw places_now (making_kept made_law) in
-            rw (exit_made, makes.taken ∙ ap (λ (m : Making). length (after m)) made_is) (good_after room kept good_now)
 
         pub place_fits : {place : ℕ} → answer ≡ Ok place → place < 65536
         place_fits e = placed_fits (ap (λ (a : Result ℕ Refusal). made_of a taken') e) made_law told_is

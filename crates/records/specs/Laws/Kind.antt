@@ -5,8 +5,9 @@ use Rattle.std.proofs.Common.{arith, sym, ◌∙◌, ap, subst}
 use Rattle.std.proofs.lemmas.Bool.{false≢true}
 use Rattle.std.proofs.Math.ListN.{get_or-eq_default}
 use Rattle.records.specs.declared.kind.Kind.{Kind}
-use Rattle.records.specs.declared.kind.Kind.TheVariants.{Nothing, EmptyWord, Letter, Choice, Sequence, Repeat, Unknown}
-use Rattle.records.specs.Kind.{nothing_kind, empty_word_kind, letter_kind, choice_kind, sequence_kind, repeat_kind, kinds, kind_of, columns}
+use Rattle.records.specs.declared.kind.Kind.TheVariants.{Unknown}
+use Rattle.records.specs.Kind.{kinds, kind_of, columns}
+use Rattle.records.specs.Number.{number}
 
 -- A number with a line in the table is one of the table's.
 pub known_number : (n : ℕ) → (columns (kind_of n)).known ≡ true → n < length kinds
@@ -16,16 +17,6 @@ known_number n known = go (dec_lt n (length kinds))
     go (yes l) = l
     go (no l) =
         absurd (false≢true (subst (λ (k : Kind). (columns k).known ≡ true) (get_or-eq_default kinds Unknown {n = n} (omega arith)) known))
-
--- The number of a kind.
-abbrev pub number : Kind → ℕ
-number Nothing = nothing_kind
-number EmptyWord = empty_word_kind
-number Letter = letter_kind
-number Choice = choice_kind
-number Sequence = sequence_kind
-number Repeat = repeat_kind
-number Unknown = length kinds
 
 number_below : (n : ℕ) → n < length kinds → number (kind_of n) ≡ n
 number_below zero l = refl

@@ -13,10 +13,10 @@ use Rattle.cards.proofs.Laws.Line.{lower_left, lower_right}
 use Rattle.std.specs.declared.option.Option.TheVariants.{Some, None}
 use Rattle.store.specs.declared.making.Ruled.TheVariants.{Gives, Stays, Merges}
 use Rattle.store.specs.Making.{Making, find, intern, nothing_place, empty_word_place, sequence_rule, rule, new_record, members, merged, built, make}
-use Rattle.store.specs.Good.{is_set, SetKind, Good}
+use Rattle.store.specs.Good.{is_set, SetKind, Good, Makeable}
 use Rattle.store.proofs.Laws.Finding.{found_within, found_holds, added_found}
 use Rattle.store.specs.Laws.Wall.{Grows, Ready}
-use Rattle.store.proofs.Laws.Wall.{grows_refl, grows_trans, longer_by_one, kept_refl, Makeable, Placed, MakeLaw, was_placed, was_full}
+use Rattle.store.proofs.Laws.Wall.{grows_refl, grows_trans, longer_by_one, kept_refl, Placed, MakeLaw, was_placed, was_full}
 use Rattle.store.proofs.Laws.Languages.{language_at, operator_over, language_of_operator, equal_of_path}
 use Rattle.store.proofs.Laws.Members.{members_set}
 use Rattle.store.proofs.Laws.Merging.{merged_set}

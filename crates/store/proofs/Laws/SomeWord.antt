@@ -14,7 +14,8 @@ use Rattle.records.specs.declared.kind.Kind.TheVariants.{Nothing, EmptyWord, Let
 use Rattle.records.specs.declared.record.Record.{Record}
 use Rattle.records.specs.Record.{child}
 use Rattle.records.specs.Kind.{choice_kind, kind_of, columns}
-use Rattle.records.specs.Laws.Kind.{number, number_of_kind}
+use Rattle.records.specs.Number.{number}
+use Rattle.records.specs.Laws.Kind.{number_of_kind}
 use Rattle.cards.specs.Mark.{bit}
 use Rattle.cards.specs.Standing.{LineOf}
 use Rattle.cards.proofs.Laws.Meaning.{pattern_of_record}

@@ -10,8 +10,7 @@ use Rattle.std.proofs.Common.{arith, append_assoc, append-nil, sym, ◌∙◌, a
 use Rattle.language.specs.Language.{Equal}
 use Rattle.records.specs.declared.record.Record.{Record}
 use Rattle.records.specs.Kind.{kind_of}
-use Rattle.cards.specs.Standing.{Line}
-use Rattle.store.specs.Making.{Making, placed, full, new_record, make, after}
+use Rattle.store.specs.Making.{Making, placed, full, make, after}
 use Rattle.store.specs.Laws.Wall.{Grows, Ready, Kept}
 use Rattle.store.proofs.Laws.Languages.{language_at, operator_over, language_kept}
 
@@ -45,11 +44,6 @@ kept_refl {store = store} r = record { grows = grows_refl store; ready = r }
 
 pub kept_trans : {room : ℕ} {a b c : List Record} → Kept room a b → Kept room b c → Kept room a c
 kept_trans j k = record { grows = grows_trans j.grows k.grows; ready = k.ready }
-
--- What can be made: a record that obeys the kind table at the first free place, with a letter that is a byte.
-pub record Makeable (store : List Record) (kind letter left right : ℕ) : Type 0 where
-  pub line : Line (length store) (new_record store kind letter left right)
-  pub byte : letter < 256
 
 -- A record was made.
 pub record Placed (room : ℕ) (store : List Record) (kind letter left right place : ℕ) (store' : List Record) : Type 0 where
