@@ -6,8 +6,9 @@ ghost use Rattle.loading.specs.Loading.{child_place, load};
 ghost use Rattle.loading.specs.Told.{Loadable, Mapped, Loads};
 
 use records::kind::{Kind, columns_of};
-use records::record::{RECORD, read};
+use records::record::{RECORD, Record};
 use refusals::refusal::Refusal;
+use runs::item::Item;
 use store::making::make;
 use store::work::Work;
 
@@ -19,7 +20,7 @@ pub fn load(work: &mut Work<'_>, card: &[u8], map: &mut [u16]) -> Result<(), Ref
     ensures mapped { Mapped (load (space_of work.old) (store_of work.old) (records card.now)) map.new }
 {
     for at in 0..card.len() / RECORD {
-        let r = read(card, at);
+        let r = Record::read(card, at);
         let line = columns_of(Kind::from(r.kind));
         let left = child_place(line.left, map, r.left as usize);
         let right = child_place(line.right, map, r.right as usize);
