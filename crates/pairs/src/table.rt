@@ -5,7 +5,6 @@ ghost use Rattle.pairs.specs.Room.{table_in, laid_pairs, TableStands};
 ghost use Rattle.refusals.specs.Limits.{most_pairs};
 
 use crate::pair::{Pair, both, places_at};
-
 use runs::item::write_item;
 
 // Whether the two places stand in the table as a pair. Two places are compared as one number.

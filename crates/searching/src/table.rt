@@ -8,8 +8,8 @@ ghost use Rattle.searching.specs.OneProof.{good_table_prop};
 ghost use Rattle.searching.specs.Table.{GoodTable};
 
 use pairs::pair::Pair;
-use runs::item::Item;
 use pairs::table::stands_in;
+use runs::item::Item;
 
 #[derive(Drop)]
 pub struct Table<'a> {
