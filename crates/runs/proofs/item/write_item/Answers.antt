@@ -1,5 +1,5 @@
 -- `write_item` lays the item in the part of the room that starts behind the items counted, and it is read back from there.
-use Rattle.std.proofs.Common.{ℕ, List, ◌+◌, ◌*◌, ◌≤◌, ◌≡◌, ◌++◌, length, take, drop, ap, ◌∙◌, arith, drop_at, length-take-le}
+use Rattle.std.proofs.Common.{ℕ, List, ◌*◌, ◌≤◌, ◌≡◌, ◌++◌, length, take, drop, ap, ◌∙◌, arith, drop_at, length-take-le}
 use Rattle.runs.specs.Runs.{item_at}
 use Rattle.runs.specs.Laws.Bytes.{put_in_part}
 use Rattle.runs.proofs.item.write_item.Goals as goal
