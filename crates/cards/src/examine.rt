@@ -6,9 +6,10 @@ ghost use Rattle.cards.specs.Mark.{bit, marked, has_empty};
 ghost use Rattle.cards.specs.Examine.{wrong_length, letter_field, child_field, obeys_line, obeys, mark_right, record_standing, examined, pattern_card, proof_card};
 
 use records::kind::{Columns, Kind, columns_of};
-use records::record::{RECORD, Record, read};
+use records::record::{RECORD, Record};
 use refusals::limits::{MOST_PATTERN_RECORDS, MOST_PROOF_RECORDS};
 use refusals::refusal::Refusal;
+use runs::item::Item;
 
 // A pattern card. It and a proof card differ in one number, which is `examine`'s argument; each has its name, since document 01 names both.
 pub fn examine_pattern(card: &[u8]) -> Result<(), Refusal>
@@ -49,7 +50,7 @@ fn examine_record(card: &[u8], at: usize) -> Result<(), Refusal>
     requires { 8 * at + 8 ≤ length card.now }
     ensures { standing_told result ≡ record_standing (records card.now) at (record_at card.now at) }
 {
-    let r = read(card, at);
+    let r = Record::read(card, at);
     if !obeys(at, r) {
         return Err(Refusal::BrokenRecord);
     }
@@ -108,7 +109,7 @@ fn marked_at(card: &[u8], at: usize) -> bool
     ensures { result ≡ marked (child (records card.now) at) }
 {
     if at < card.len() / RECORD {
-        let r = read(card, at);
+        let r = Record::read(card, at);
         r.mark == 1
     } else {
         false

@@ -4,14 +4,15 @@ ghost use Rattle.records.specs.Record.{records};
 ghost use Rattle.cards.specs.Letters.{letter_of, mentions};
 
 use records::kind::{Kind, columns_of};
-use records::record::{RECORD, read};
+use records::record::{RECORD, Record};
+use runs::item::Item;
 
 // Whether some letter record of the card has the letter.
 pub fn mentions(card: &[u8], letter: u8) -> bool
     ensures { result ≡ mentions (records card.now) letter }
 {
     for at in 0..card.len() / RECORD {
-        let r = read(card, at);
+        let r = Record::read(card, at);
         if letter_of(Kind::from(r.kind), r.letter, letter) {
             return true;
         }

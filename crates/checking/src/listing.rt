@@ -3,7 +3,8 @@
 ghost use Rattle.checking.specs.Listed.{Named};
 ghost use Rattle.checking.specs.OneProof.{named_prop};
 
-use pairs::pair::{PAIR, Pair, both, read};
+use pairs::pair::{PAIR, Pair, both};
+use runs::item::Item;
 
 // The list, and the place of each record of the proof card. Every listed pair names two of those records.
 #[derive(Clone, Copy)]
@@ -39,7 +40,7 @@ impl Listed<'_> {
         requires { n < pairs_of self.list.now }
         ensures { result ≡ pair_at (mapped_list self.entry.map.now self.entry.list.now) n }
     {
-        let p = read(self.list, n);
+        let p = Pair::read(self.list, n);
         Pair {
             left: self.map[p.left as usize],
             right: self.map[p.right as usize],

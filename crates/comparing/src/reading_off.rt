@@ -5,7 +5,8 @@ ghost use Rattle.searching.specs.ReadOff.{word_of};
 ghost use Rattle.comparing.specs.Told.{Wrote};
 ghost use Rattle.searching.specs.Told.{OrderedPairs, found_word};
 
-use pairs::pair::read;
+use pairs::pair::Pair;
+use runs::item::Item;
 
 // Writes the word of a pair that is reached from the pair numbered `from` by a letter at the start of the word room, and tells its length; the
 // empty word where no pair is placed. Or the word room is too short for it: then the length wanted is told.
@@ -42,7 +43,7 @@ fn word_length(pairs: &[u8], placed: usize, from: usize) -> usize
     let mut count = 0;
     // a `while`: each pair tells the one that it came from, so no range and no slice has these numbers
     while at != 0 {
-        let p = read(pairs, at);
+        let p = Pair::read(pairs, at);
         at = p.origin as usize;
         count += 1;
     }
@@ -62,7 +63,7 @@ fn write_word(pairs: &[u8], placed: usize, from: usize, letter: u8, word: &mut [
     let mut at = from;
     // a `while`: each pair tells the one that it came from, so no range and no slice has these numbers
     while at != 0 {
-        let p = read(pairs, at);
+        let p = Pair::read(pairs, at);
         end -= 1;
         word[end] = p.letter;
         at = p.origin as usize;

@@ -11,8 +11,9 @@ ghost use Rattle.derivative.specs.Told.{Comes};
 
 use cards::examine::as_mark;
 use records::kind::Kind;
-use records::record::read;
+use records::record::Record;
 use refusals::refusal::Refusal;
+use runs::item::Item;
 use store::room::NOTHING_PLACE;
 use store::work::Work;
 
@@ -64,7 +65,7 @@ fn visit(work: &Work<'_>, place: usize, letter: u8) -> Visited
     requires { place < work.now.places }
     ensures { result ≡ asked (store_of work.now) letter place }
 {
-    let r = read(work.room, place);
+    let r = Record::read(work.room, place);
     match Kind::from(r.kind) {
         Kind::Nothing => Visited::Leaf(NOTHING_PLACE),
         Kind::EmptyWord => Visited::Leaf(NOTHING_PLACE),

@@ -6,8 +6,9 @@ ghost use Rattle.loading.specs.Loading.{child_place, load};
 ghost use Rattle.loading.specs.Told.{Loadable, Mapped, Loads};
 
 use records::kind::{Kind, columns_of};
-use records::record::{RECORD, read};
+use records::record::{RECORD, Record};
 use refusals::refusal::Refusal;
+use runs::item::Item;
 use store::work::Work;
 
 // Makes the records of a card in order. The place of each goes into `map`.
@@ -18,7 +19,7 @@ pub fn load(work: &mut Work<'_>, card: &[u8], map: &mut [u16]) -> Result<(), Ref
     ensures mapped { Mapped (load (space_of work.old) (store_of work.old) (records card.now)) map.new }
 {
     for at in 0..card.len() / RECORD {
-        let r = read(card, at);
+        let r = Record::read(card, at);
         let kind = Kind::from(r.kind);
         let line = columns_of(kind);
         let left = child_place(line.left, map, r.left as usize);

@@ -3,7 +3,8 @@ ghost use Rattle.std.specs.Prelude.{◌≡◌, ◌≤◌, length};
 ghost use Rattle.store.specs.Room.{laid, fresh_store};
 
 use records::kind::Kind;
-use records::record::{RECORD, Record, lay};
+use records::record::Record;
+use runs::item::write_item;
 
 // Place 0 is nothing, place 1 the empty word: two places are taken.
 pub fn fresh(room: &mut [u8]) -> usize
@@ -11,8 +12,9 @@ pub fn fresh(room: &mut [u8]) -> usize
     ensures value { result ≡ 2 }
     ensures room_after { room.new ≡ laid fresh_store room.old }
 {
-    lay(
+    write_item(
         room,
+        0,
         Record {
             kind: Kind::Nothing as u8,
             letter: 0,
@@ -22,8 +24,9 @@ pub fn fresh(room: &mut [u8]) -> usize
             right: 0,
         },
     );
-    lay(
-        &mut room[RECORD..],
+    write_item(
+        room,
+        1,
         Record {
             kind: Kind::EmptyWord as u8,
             letter: 0,

@@ -1,7 +1,9 @@
 // The pair record: 8 bytes, read and laid down here and nowhere else.
-ghost use Rattle.std.specs.Prelude.{◌≡◌, ◌++◌, ◌+◌, ◌*◌, ◌≤◌, length, drop};
-ghost use Rattle.pairs.specs.Pair.{places_of_pair, pair_record, bytes_of_pair};
+ghost use Rattle.std.specs.Prelude.{◌≡◌, ◌+◌, ◌*◌, ◌≤◌, length};
+ghost use Rattle.pairs.specs.Pair.{places_of_pair, pair_of, pair_record, bytes_of_pair};
+ghost use Rattle.pairs.specs.Laws.Pair.{read_pair_back};
 
+use runs::item::Item;
 use runs::two_bytes::{joined, lay_two};
 
 // The bytes of a pair record.
@@ -15,17 +17,30 @@ pub struct Pair {
     pub letter: u8,
 }
 
-// The pair numbered `at` of a run of pairs.
-pub fn read(run: &[u8], at: usize) -> Pair
-    requires { 8 * at + 8 ≤ length run.now }
-    ensures { result ≡ pair_record run.now at }
-{
-    let start = PAIR * at;
-    Pair {
-        left: joined(run[start], run[start + 1]),
-        right: joined(run[start + 2], run[start + 3]),
-        origin: joined(run[start + 4], run[start + 5]),
-        letter: run[start + 6],
+// A pair is an item of 8 bytes: `Item` says what reading and laying one promise.
+impl Item for Pair {
+    ghost item_of = { pair_of };
+
+    ghost bytes_of = { bytes_of_pair };
+
+    ghost back = { read_pair_back };
+
+    fn read(run: &[u8], at: usize) -> Pair {
+        let start = PAIR * at;
+        Pair {
+            left: joined(run[start], run[start + 1]),
+            right: joined(run[start + 2], run[start + 3]),
+            origin: joined(run[start + 4], run[start + 5]),
+            letter: run[start + 6],
+        }
+    }
+
+    fn lay(self, part: &mut [u8]) {
+        lay_two(part, 0, self.left);
+        lay_two(part, 2, self.right);
+        lay_two(part, 4, self.origin);
+        part[6] = self.letter;
+        part[7] = 0;
     }
 }
 
@@ -43,16 +58,4 @@ pub fn places_at(run: &[u8], at: usize) -> u32
 {
     let start = PAIR * at;
     u32::from_le_bytes([run[start], run[start + 1], run[start + 2], run[start + 3]])
-}
-
-// Lays a pair down at the start of a part of a room.
-pub fn lay(part: &mut [u8], p: Pair)
-    requires { 8 ≤ length part.old }
-    ensures { part.new ≡ bytes_of_pair p ++ drop 8 part.old }
-{
-    lay_two(part, 0, p.left);
-    lay_two(part, 2, p.right);
-    lay_two(part, 4, p.origin);
-    part[6] = p.letter;
-    part[7] = 0;
 }

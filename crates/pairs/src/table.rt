@@ -4,7 +4,8 @@ ghost use Rattle.pairs.specs.Pair.{stands_in};
 ghost use Rattle.pairs.specs.Room.{table_in, laid_pairs, TableStands};
 ghost use Rattle.refusals.specs.Limits.{most_pairs};
 
-use crate::pair::{PAIR, Pair, both, lay, places_at};
+use crate::pair::{Pair, both, places_at};
+use runs::item::write_item;
 
 // Whether the two places stand in the table as a pair. Two places are compared as one number.
 pub fn stands_in(room: &[u8], pairs: usize, left: u16, right: u16) -> bool
@@ -20,13 +21,12 @@ pub fn stands_in(room: &[u8], pairs: usize, left: u16, right: u16) -> bool
     false
 }
 
-// The pair writer is lent the part of the room that starts at the first free pair. It is one line, and so is the record writer's: one for both would
-// be longer than the two.
+// Writes a pair behind the table.
 pub fn place(room: &mut [u8], pairs: usize, p: Pair)
     requires table_stands { TableStands room.old pairs }
     requires pairs_le_most_pairs { pairs ≤ most_pairs }
     requires pairs_in_bounds { 8 * pairs + 8 ≤ length room.old }
     ensures { room.new ≡ laid_pairs (table_in room.old pairs ++ p ∷ []) room.old }
 {
-    lay(&mut room[PAIR * pairs..], p);
+    write_item(room, pairs, p);
 }

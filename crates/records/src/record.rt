@@ -1,7 +1,9 @@
 // The record: 8 bytes, read and laid down here and nowhere else.
-ghost use Rattle.std.specs.Prelude.{◌≡◌, ◌++◌, ◌+◌, ◌*◌, ◌≤◌, length, drop};
-ghost use Rattle.records.specs.Record.{record_at, bytes_of, number_of};
+ghost use Rattle.std.specs.Prelude.{◌≡◌, ◌+◌, ◌*◌, ◌≤◌, length};
+ghost use Rattle.records.specs.Record.{record_of, record_at, bytes_of, number_of};
+ghost use Rattle.records.specs.Laws.Record.{read_back};
 
+use runs::item::Item;
 use runs::two_bytes::{joined, lay_two};
 
 // The bytes of a record.
@@ -18,19 +20,33 @@ pub struct Record {
     pub right: u16,
 }
 
-// The record numbered `at` of a run of records. That it stands in the run is asked in words, here and below: a run is any slice, of a card or a room.
-pub fn read(run: &[u8], at: usize) -> Record
-    requires { 8 * at + 8 ≤ length run.now }
-    ensures { result ≡ record_at run.now at }
-{
-    let start = RECORD * at;
-    Record {
-        kind: run[start],
-        letter: run[start + 1],
-        mark: run[start + 2],
-        fourth: run[start + 3],
-        left: joined(run[start + 4], run[start + 5]),
-        right: joined(run[start + 6], run[start + 7]),
+// A record is an item of 8 bytes: `Item` says what reading and laying one promise.
+impl Item for Record {
+    ghost item_of = { record_of };
+
+    ghost bytes_of = { bytes_of };
+
+    ghost back = { read_back };
+
+    fn read(run: &[u8], at: usize) -> Record {
+        let start = RECORD * at;
+        Record {
+            kind: run[start],
+            letter: run[start + 1],
+            mark: run[start + 2],
+            fourth: run[start + 3],
+            left: joined(run[start + 4], run[start + 5]),
+            right: joined(run[start + 6], run[start + 7]),
+        }
+    }
+
+    fn lay(self, part: &mut [u8]) {
+        part[0] = self.kind;
+        part[1] = self.letter;
+        part[2] = self.mark;
+        part[3] = self.fourth;
+        lay_two(part, 4, self.left);
+        lay_two(part, 6, self.right);
     }
 }
 
@@ -61,17 +77,4 @@ pub fn number_at(run: &[u8], at: usize) -> u64
         run[start + 6],
         run[start + 7],
     ])
-}
-
-// Lays a record down at the start of a part of a room.
-pub fn lay(part: &mut [u8], r: Record)
-    requires { 8 ≤ length part.old }
-    ensures { part.new ≡ bytes_of r ++ drop 8 part.old }
-{
-    part[0] = r.kind;
-    part[1] = r.letter;
-    part[2] = r.mark;
-    part[3] = r.fourth;
-    lay_two(part, 4, r.left);
-    lay_two(part, 6, r.right);
 }

@@ -7,8 +7,9 @@ ghost use Rattle.pairs.specs.Room.{table_in};
 ghost use Rattle.searching.specs.OneProof.{good_table_prop};
 ghost use Rattle.searching.specs.Table.{GoodTable};
 
-use pairs::pair::{Pair, read};
+use pairs::pair::Pair;
 use pairs::table::stands_in;
+use runs::item::Item;
 
 #[derive(Drop)]
 pub struct Table<'a> {
@@ -33,7 +34,7 @@ impl<'a> Table<'a> {
         requires { n < self.now.pairs }
         ensures { result ≡ pair_record self.now.room.now n }
     {
-        read(self.room, n)
+        Pair::read(self.room, n)
     }
 
     // Whether the two places stand in the table as a pair.

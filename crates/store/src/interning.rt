@@ -13,8 +13,9 @@ use crate::finding::find;
 use crate::writing::write;
 use cards::examine::{as_mark, has_empty};
 use records::kind::Kind;
-use records::record::{RECORD, Record, read};
+use records::record::{RECORD, Record};
 use refusals::refusal::Refusal;
+use runs::item::Item;
 
 // The record is used where it is found, and else written at the first free place. The places taken grow with it.
 pub fn intern(room: &mut [u8], places: &mut usize, r: Record) -> Result<usize, Refusal>
@@ -68,6 +69,6 @@ pub fn marked_at(room: &[u8], places: usize, place: usize) -> bool
     requires place_lt_places { place < places }
     ensures { result ≡ marked (child (store_in room.now places) place) }
 {
-    let r = read(room, place);
+    let r = Record::read(room, place);
     r.mark == 1
 }

@@ -8,8 +8,9 @@ ghost use Rattle.store.specs.Good.{SetKind, GoodStore};
 
 use crate::interning::{intern, new_record};
 use crate::room::NOTHING_PLACE;
-use records::record::read;
+use records::record::Record;
 use refusals::refusal::Refusal;
+use runs::item::Item;
 
 // A set whose record was read: its first member and the place of the set behind that.
 #[derive(Clone, Copy)]
@@ -58,7 +59,7 @@ fn read_side(room: &[u8], places: usize, kind: u8, place: usize) -> Side
     requires place_lt_places { place < places }
     ensures { result ≡ side kind (store_in room.now places) place }
 {
-    let r = read(room, place);
+    let r = Record::read(room, place);
     if r.kind == kind {
         return Side {
             first: r.left as usize,

@@ -5,13 +5,14 @@ ghost use Rattle.std.specs.Prelude.{◌≡◌, [], ◌∷◌, ◌++◌, ◌+◌,
 ghost use Rattle.store.specs.Room.{store_in, laid};
 ghost use Rattle.store.specs.Good.{GoodStore};
 
-use records::record::{RECORD, Record, lay};
+use records::record::Record;
+use runs::item::write_item;
 
-// The record writer is lent the part of the room that starts at the first free place.
+// Writes a record at the first free place.
 pub fn write(room: &mut [u8], places: usize, r: Record)
     requires good_store { GoodStore room.old places }
     requires places_in_bounds { 8 * places + 8 ≤ length room.old }
     ensures { room.new ≡ laid (store_in room.old places ++ r ∷ []) room.old }
 {
-    lay(&mut room[RECORD * places..], r);
+    write_item(room, places, r);
 }

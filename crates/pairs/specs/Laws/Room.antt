@@ -1,6 +1,6 @@
 -- A table laid in a room and the table that stands in it are one: a table laid in a room of bytes is the table that stands there, a
 -- table that stands laid in its room again leaves the room as it is, and of two tables laid one after the other the longer is what stands.
-use Rattle.std.specs.Prelude.{ℕ, ◌*◌, ◌-◌, ◌<◌, ◌≤◌, List, [], ◌∷◌, ◌++◌, ◌≡◌, length, take, drop}
+use Rattle.std.specs.Prelude.{ℕ, ◌+◌, ◌*◌, ◌-◌, ◌<◌, ◌≤◌, List, [], ◌∷◌, ◌++◌, ◌≡◌, length, take, drop}
 use Rattle.language.specs.Word.{Bytes}
 use Rattle.runs.specs.Laws.Runs as runs
 use Rattle.pairs.specs.declared.pair.Pair.{Pair}
@@ -50,3 +50,9 @@ pub one_pair_more : {room : List ℕ} {pairs : ℕ} → TableStands room pairs �
     → take start room ++ (part ++ drop (length room - start) (drop start room)) ≡ laid_pairs (table_in room pairs ++ p ∷ []) room
 unfolding first_pairs run_of_pairs
 one_pair_more s p e f = runs.one_more_put pair_item s p e f
+
+-- So is a pair written behind it.
+pub pair_behind : {room : List ℕ} {pairs : ℕ} → TableStands room pairs → (p : Pair)
+    → take (8 * pairs) room ++ (bytes_of_pair p ++ drop (8 * pairs + 8) room) ≡ laid_pairs (table_in room pairs ++ p ∷ []) room
+unfolding first_pairs run_of_pairs
+pair_behind s p = runs.laid_one_more pair_item s p

@@ -55,3 +55,9 @@ pub one_record_more : (places : ℕ) {room : List ℕ} → 8 * places ≤ length
     → take start room ++ (part ++ drop (length room - start) (drop start room)) ≡ laid (store_in room places ++ r ∷ []) room
 unfolding first_records run_of
 one_record_more places {room} l b r e f = runs.one_more_put record_item (store_stands places room l b) r e f
+
+-- So is a record written behind it.
+pub record_behind : (places : ℕ) {room : List ℕ} → 8 * places ≤ length room → Bytes room → (r : Record)
+    → take (8 * places) room ++ (bytes_of r ++ drop (8 * places + 8) room) ≡ laid (store_in room places ++ r ∷ []) room
+unfolding first_records run_of
+record_behind places {room} l b r = runs.laid_one_more record_item (store_stands places room l b) r

@@ -1,9 +1,7 @@
--- `place` lays the pair in the part of the room behind the table, so the room is the table with the pair at its end.
-use mathlib.Core.Path.{refl}
-use Rattle.pairs.specs.Laws.Room.{one_pair_more}
+-- `place` writes the pair behind the table, so the room is the table with the pair at its end.
+use mathlib.Core.Path.{◌∙◌}
+use Rattle.pairs.specs.Laws.Room.{pair_behind}
 use Rattle.pairs.proofs.table.place.Goals as goal
 
 pub returns : goal.returns
-returns c =
-    let s = c in
-    one_pair_more s.requires.table_stands s.args.p refl c.lay.ensures
+returns c = c.write_item.ensures.written ∙ pair_behind c.requires.table_stands c.args.p

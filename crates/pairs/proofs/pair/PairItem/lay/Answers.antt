@@ -3,7 +3,7 @@ use native.Mathlib.Omega.{arith}
 use lib.ListN.{length-set}
 use lib.Seq.{sets-eq}
 use Rattle.pairs.specs.Pair.{bytes_of_pair}
-use Rattle.pairs.proofs.pair.lay.Goals as goal
+use Rattle.pairs.proofs.pair.PairItem.lay.Goals as goal
 
 pub bounds-part-7 : goal.bounds-part-7
 bounds-part-7 c = simp length-set (omega arith)
@@ -18,4 +18,4 @@ returns c =
     let first = second in
     let a = first.args in
     rw (third.lay_two-3.ensures, second.lay_two-2.ensures, first.lay_two.ensures)
-    (sets-eq (bytes_of_pair a.p) a.part.now 0 (omega arith))
+    (sets-eq (bytes_of_pair a.self) a.part.now 0 (omega arith))

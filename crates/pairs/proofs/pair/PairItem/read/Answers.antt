@@ -7,7 +7,7 @@ use lib.Seq.{get_or-drop}
 use native.Mathlib.Nat.{add-zero}
 use Rattle.pairs.specs.Pair.{pair_record}
 use Rattle.pairs.specs.declared.pair.Pair.{Pair}
-use Rattle.pairs.proofs.pair.read.Goals as goal
+use Rattle.pairs.proofs.pair.PairItem.read.Goals as goal
 
 -- The three numbers joined of two bytes each, and the letter, are the fields of the pair at the number.
 as-pair : (s : List ℕ) (at : ℕ) {l r o : ℕ}

@@ -4,7 +4,7 @@ use mathlib.Core.Path.{ap}
 use lib.ListN.{length, length-set}
 use lib.Seq.{sets-eq}
 use Rattle.records.specs.Record.{bytes_of}
-use Rattle.records.proofs.record.lay.Goals as goal
+use Rattle.records.proofs.record.RecordItem.lay.Goals as goal
 
 pub bounds-part-1 : goal.bounds-part-1
 bounds-part-1 c = simp length-set (omega arith)
@@ -28,4 +28,4 @@ pub returns : goal.returns
 returns c =
     let a = c.args in
     rw (c.lay_two-2.ensures, c.lay_two.ensures)
-    (sets-eq (bytes_of a.r) a.part.now 0 (omega arith))
+    (sets-eq (bytes_of a.self) a.part.now 0 (omega arith))

@@ -7,7 +7,7 @@ use lib.Seq.{get_or-drop}
 use native.Mathlib.Nat.{add-zero}
 use Rattle.records.specs.Record.{record_at}
 use Rattle.records.specs.declared.record.Record.{Record}
-use Rattle.records.proofs.record.read.Goals as goal
+use Rattle.records.proofs.record.RecordItem.read.Goals as goal
 
 -- The bytes read one by one, and the two numbers joined of two bytes each, are the fields of the record at the place.
 as-record : (s : List ℕ) (at : ℕ) {l r : ℕ}
