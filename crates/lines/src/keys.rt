@@ -1,8 +1,8 @@
 // What the keys of a line say. They are read from the left to the right, each by what its value is, and what is not of its form is none.
-ghost use Rattle.std.specs.Prelude.{◌≡◌, ◌≤◌, [], ◌∷◌, ◌++◌, ◌⊎◌, IfSome, IfNone, Decides, is_some};
+ghost use Rattle.std.specs.Prelude.{◌≡◌, ◌≤◌, [], ◌∷◌, ◌++◌, ◌⊎◌, length, IfSome, IfNone, Decides, is_some};
 ghost use Rattle.text.specs.Digits.{hex, decimal};
 ghost use Rattle.text.specs.Told.{Passes};
-ghost use Rattle.lines.specs.Line.{Stands, IsNotThere, NoByte, NoneUpTo, Ends};
+ghost use Rattle.lines.specs.Line.{Stands, DigitsEnd, IsNotThere, NoByte, NoneUpTo, Ends};
 
 use crate::rooms::LARGEST_ROOM;
 use refusals::limits::MOST_BUDGET;
@@ -41,6 +41,8 @@ impl<'a> Keys<'a> {
         ensures same_text { self.new.line.text.now ≡ self.old.line.text.now }
         ensures stands { IfSome result (λ bytes.
             Stands self.old.line.text.now self.old.line.at (key.now ++ hex bytes.now) self.new.line.at) }
+        ensures digits_end { IfSome result (λ bytes.
+            DigitsEnd self.old.line.text.now self.new.line.at (length bytes.now) (length self.old.room.now)) }
         ensures none { IfNone result (
             IsNotThere self.old.line.text.now self.old.line.at key.now × (self.new.line.at ≡ self.old.line.at)) }
     {
@@ -54,6 +56,7 @@ impl<'a> Keys<'a> {
     pub fn bytes_or_none(&mut self, key: &[u8]) -> &'a [u8]
         ensures same_text { self.new.line.text.now ≡ self.old.line.text.now }
         ensures stands { Stands self.old.line.text.now self.old.line.at (key.now ++ hex result.now) self.new.line.at
+            × DigitsEnd self.old.line.text.now self.new.line.at (length result.now) (length self.old.room.now)
             ⊎ IsNotThere self.old.line.text.now self.old.line.at key.now × (result.now ≡ []) × (self.new.line.at ≡ self.old.line.at) }
     {
         self.bytes(key).unwrap_or(&[])
