@@ -1,10 +1,11 @@
 -- What is read behind a key stands behind it, and the key before it.
 use Rattle.std.proofs.Common.{ℕ, ◌+◌, ◌*◌, ◌≤◌, ◌≡◌, List, [], ◌∷◌, ◌++◌, Option, Some, IfSome, IfNone, length, drop, take, subst, sym, ap, ◌∙◌, append_assoc}
 use Rattle.std.specs.Prelude.{⊤}
-use Rattle.std.proofs.lemmas.List.{append_cancel_left}
+use native.Mathlib.Omega.{arith}
+use Rattle.std.proofs.lemmas.List.{append_cancel_left, length-take-le}
 use Rattle.text.specs.Digits.{hex, decimal}
 use Rattle.text.specs.Told.{NoDigits, NoNumber, Passes, passes, ReadsByte, reads_byte, reads_no_byte, ReadsNumber, reads_number, reads_no_number, ReadsHex}
-use Rattle.lines.specs.Line.{Stands, NoByte, NoneUpTo}
+use Rattle.lines.specs.Line.{Stands, DigitsEnd, NoByte, NoneUpTo}
 
 behind : {text key : List ℕ} {from at to : ℕ} {done : ⊤} (piece : List ℕ) → Passes text from key (Some done) at → to ≤ length text
     → drop at text ≡ piece ++ drop to text → Stands text from (key ++ piece) to
@@ -51,6 +52,15 @@ bytes_stand {text} {key = key} {room = room} {from = from} {at = at} {to = to} {
     let r = subst (λ (s : List ℕ). ReadsHex s at count room) same read in
     let s = behind _ p r.inside r.read in
     subst (λ (b : List ℕ). Stands text from (key ++ hex b) to) (sym taken) (subst (λ (n : ℕ). Stands text from (key ++ hex (take count room)) n) (sym on) s)
+
+-- The digits end where the bytes do, unless the room is full of them.
+pub digits_end : {text text' room bytes : List ℕ} {at to count most : ℕ} → text' ≡ text → ReadsHex text' at count room → to ≡ at + 2 * count
+    → bytes ≡ take count room → length room ≡ most → DigitsEnd text to (length bytes) most
+digits_end {text} {room = room} {at = at} {count = count} same read on taken long less =
+    let r = subst (λ (s : List ℕ). ReadsHex s at count room) same read in
+    let n = ap (λ (s : List ℕ). length s) taken in
+    let m = length-take-le count room r.in_room in
+    subst (λ (k : ℕ). NoDigits (drop k text)) (sym on) (r.ends (omega arith))
 
 pub no_byte : {text text' key : List ℕ} {from at to : ℕ} {done : ⊤} {r : Option ℕ} → text' ≡ text → Passes text from key (Some done) at
     → ReadsByte text' at r to → IfNone r (NoByte text from key)

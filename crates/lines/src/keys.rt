@@ -1,8 +1,8 @@
 // What the keys of a line say. They are read from the left to the right, each by what its value is, and what is not of its form is none.
-ghost use Rattle.std.specs.Prelude.{◌≡◌, ◌≤◌, [], ◌∷◌, ◌++◌, ◌⊎◌, IfSome, IfNone, Decides, is_some};
+ghost use Rattle.std.specs.Prelude.{◌≡◌, ◌≤◌, ◌+◌, [], ◌∷◌, ◌++◌, ◌⊎◌, length, IfSome, IfNone, Decides, is_some};
 ghost use Rattle.text.specs.Digits.{hex, decimal};
 ghost use Rattle.text.specs.Told.{Passes};
-ghost use Rattle.lines.specs.Line.{Stands, IsNotThere, NoByte, NoneUpTo, Ends};
+ghost use Rattle.lines.specs.Line.{Stands, DigitsEnd, IsNotThere, NoByte, NoneUpTo, Ends};
 
 use crate::rooms::LARGEST_ROOM;
 use refusals::limits::MOST_BUDGET;
@@ -23,6 +23,7 @@ impl<'a> Keys<'a> {
     pub fn new(line: &'a [u8], room: &'a mut [u8]) -> Self
         ensures text { result.line.text.now ≡ line.now }
         ensures place { result.line.at ≡ 0 }
+        ensures room { result.room.now ≡ room.old }
     {
         let line = Reader::new(line);
         Keys { line, room }
@@ -31,6 +32,7 @@ impl<'a> Keys<'a> {
     // A key, as it stands.
     pub fn key(&mut self, key: &[u8]) -> Option<()>
         ensures same_text { self.new.line.text.now ≡ self.old.line.text.now }
+        ensures room_kept { self.new.room.now ≡ self.old.room.now }
         ensures passes { Passes self.old.line.text.now self.old.line.at key.now result self.new.line.at }
     {
         self.line.pass(key)
@@ -41,6 +43,11 @@ impl<'a> Keys<'a> {
         ensures same_text { self.new.line.text.now ≡ self.old.line.text.now }
         ensures stands { IfSome result (λ bytes.
             Stands self.old.line.text.now self.old.line.at (key.now ++ hex bytes.now) self.new.line.at) }
+        ensures digits_end { IfSome result (λ bytes.
+            DigitsEnd self.old.line.text.now self.new.line.at (length bytes.now) (length self.old.room.now)) }
+        ensures room_left { IfSome result (λ bytes.
+            length bytes.now + length self.new.room.now ≡ length self.old.room.now) }
+        ensures room_kept { IfNone result (self.new.room.now ≡ self.old.room.now) }
         ensures none { IfNone result (
             IsNotThere self.old.line.text.now self.old.line.at key.now × (self.new.line.at ≡ self.old.line.at)) }
     {
@@ -54,7 +61,9 @@ impl<'a> Keys<'a> {
     pub fn bytes_or_none(&mut self, key: &[u8]) -> &'a [u8]
         ensures same_text { self.new.line.text.now ≡ self.old.line.text.now }
         ensures stands { Stands self.old.line.text.now self.old.line.at (key.now ++ hex result.now) self.new.line.at
+            × DigitsEnd self.old.line.text.now self.new.line.at (length result.now) (length self.old.room.now)
             ⊎ IsNotThere self.old.line.text.now self.old.line.at key.now × (result.now ≡ []) × (self.new.line.at ≡ self.old.line.at) }
+        ensures room_left { length result.now + length self.new.room.now ≡ length self.old.room.now }
     {
         self.bytes(key).unwrap_or(&[])
     }
@@ -62,6 +71,7 @@ impl<'a> Keys<'a> {
     // A key and one byte in hex.
     pub fn byte(&mut self, key: &[u8]) -> Option<u8>
         ensures same_text { self.new.line.text.now ≡ self.old.line.text.now }
+        ensures room_kept { self.new.room.now ≡ self.old.room.now }
         ensures stands { IfSome result (λ byte.
             Stands self.old.line.text.now self.old.line.at (key.now ++ hex (byte ∷ [])) self.new.line.at) }
         ensures none { IfNone result (NoByte self.old.line.text.now self.old.line.at key.now) }
@@ -73,6 +83,7 @@ impl<'a> Keys<'a> {
     // A key and a room's size.
     pub fn size(&mut self, key: &[u8]) -> Option<usize>
         ensures same_text { self.new.line.text.now ≡ self.old.line.text.now }
+        ensures room_kept { self.new.room.now ≡ self.old.room.now }
         ensures stands { IfSome result (λ size.
             Stands self.old.line.text.now self.old.line.at (key.now ++ decimal size) self.new.line.at) }
         ensures none { IfNone result (NoneUpTo LARGEST_ROOM self.old.line.text.now self.old.line.at key.now) }
@@ -85,6 +96,7 @@ impl<'a> Keys<'a> {
     // A key and a budget.
     pub fn budget(&mut self, key: &[u8]) -> Option<u32>
         ensures same_text { self.new.line.text.now ≡ self.old.line.text.now }
+        ensures room_kept { self.new.room.now ≡ self.old.room.now }
         ensures stands { IfSome result (λ budget.
             Stands self.old.line.text.now self.old.line.at (key.now ++ decimal budget) self.new.line.at) }
         ensures none { IfNone result (NoneUpTo MOST_BUDGET self.old.line.text.now self.old.line.at key.now) }
@@ -106,6 +118,7 @@ impl<'a> Keys<'a> {
     // A key and a number that is not too large.
     fn number(&mut self, key: &[u8], most: u32) -> Option<u32>
         ensures same_text { self.new.line.text.now ≡ self.old.line.text.now }
+        ensures room_kept { self.new.room.now ≡ self.old.room.now }
         ensures stands { IfSome result (λ number.
             Stands self.old.line.text.now self.old.line.at (key.now ++ decimal number) self.new.line.at) }
         ensures none { IfNone result (NoneUpTo most self.old.line.text.now self.old.line.at key.now) }

@@ -1,4 +1,5 @@
-// Lines with names, each ended by a line feed: bytes in hex, and numbers. Where no such line stands there, the reader stands somewhere in what does.
+// Lines with names, each ended by a line feed: bytes in hex, and numbers. Where no such line stands there, the reader stays or goes on,
+// never back.
 ghost use Rattle.std.specs.Prelude.{◌≡◌, ◌*◌, ◌≤◌, length};
 ghost use Rattle.text.specs.Told.{ReadsHexLine, ReadsNumberLine};
 
@@ -10,6 +11,7 @@ impl Reader<'_> {
         requires room_long_enough { length self.old.text.now ≤ 2 * length room.old }
         ensures same_text { self.new.text.now ≡ self.old.text.now }
         ensures reads { ReadsHexLine self.old.text.now self.old.at name.now result self.new.at room.new }
+        ensures goes_on { self.old.at ≤ self.new.at }
     {
         self.pass(name)?;
         let count = self.hex(room);
@@ -22,6 +24,7 @@ impl Reader<'_> {
     pub fn number_line(&mut self, name: &[u8], most: u32) -> Option<u32>
         ensures same_text { self.new.text.now ≡ self.old.text.now }
         ensures reads { ReadsNumberLine self.old.text.now self.old.at name.now most result self.new.at }
+        ensures goes_on { self.old.at ≤ self.new.at }
     {
         self.pass(name)?;
         let number = self.number(most)?;

@@ -81,11 +81,12 @@ impl<'a> Reader<'a> {
         Some(digit)
     }
 
-    // A number in decimal, up to the first byte that is no digit. Where there is none that is not too large, the reader stands behind some of its
-    // digits: a caller that tries something else keeps a copy.
+    // A number in decimal, up to the first byte that is no digit. Where there is none that is not too large, the reader stays or goes on, never
+    // back: a caller that tries something else keeps a copy.
     pub fn number(&mut self, most: u32) -> Option<u32>
         ensures same_text { self.new.text.now ≡ self.old.text.now }
         ensures reads { ReadsNumber self.old.text.now self.old.at most result self.new.at }
+        ensures goes_on { self.old.at ≤ self.new.at }
     {
         let mut value = first_digit(self.digit()?, most)?;
         while let Some(digit) = self.digit() {

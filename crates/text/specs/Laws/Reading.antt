@@ -241,6 +241,17 @@ pub record Further (text : List ℕ) (from to : ℕ) : Type 0 where
 pub goes_further : {text : List ℕ} {from c to : ℕ} → ReadsDigit text from (Some c) to → Further text from to
 goes_further (reads_digit l d e) = record { inside = l; next = refl }
 
+-- A reader of a digit or of a piece does not go back.
+pub digit_goes_on : {text : List ℕ} {from to : ℕ} {r : Option ℕ} → ReadsDigit text from r to → from ≤ to
+digit_goes_on (reads_digit l d e) = omega arith
+digit_goes_on (reads_no_digit n) = omega arith
+
+pub pass_goes_on : {text piece : List ℕ} {from to : ℕ} {r : Option ⊤} → from ≤ length text → Passes text from piece r to → from ≤ to
+pass_goes_on {text} {piece} {from} {to} l (passes m e) =
+    let n = ap (λ (s : List ℕ). length s) e in
+    omega (arith, length-append piece (drop to text), length-drop from text, length-drop to text)
+pass_goes_on l (passes_not f) = omega arith
+
 -- Where no digit stands, there is no number.
 pub number_no_digit : {text : List ℕ} {from to last : ℕ} (most : ℕ) → ReadsDigit text from None to → ReadsNumber text from most None last
 number_no_digit {text} {from} most (reads_no_digit n) = reads_no_number (record { none_read = λ m t s stop h. no_run t (decimal_digits m) (some_digits m) h })

@@ -1,5 +1,6 @@
 -- `number_line` passes the name, reads the number and passes a line feed: what stands in the text is the name in front of what stands behind it.
-use Rattle.text.specs.Laws.Reading.{passed_to, passed_not, number_to, no_number}
+use native.Mathlib.Omega.{arith}
+use Rattle.text.specs.Laws.Reading.{pass_goes_on, passed_to, passed_not, number_to, no_number}
 use Rattle.text.specs.Laws.Lines.{no_number_name, a_number_line, no_number_feed, no_number_line}
 use Rattle.text.proofs.reading.Reader.number_line.Goals as goal
 
@@ -28,3 +29,26 @@ returns-clause-reads c =
     let r = h.reads in
     let f = c.in_ok-pass-2.ensures.passes in
     a_number_line (passed_to n.passes) (number_to (rw n.same_text at r)) (passed_to (rw (h.same_text, n.same_text) at f))
+
+pub returns-in_err-pass-clause-goes_on : goal.returns-in_err-pass-clause-goes_on
+returns-in_err-pass-clause-goes_on c = pass_goes_on c.args.self.now.inside c.in_err-pass.ensures.passes
+
+pub returns-in_err-number-clause-goes_on : goal.returns-in_err-number-clause-goes_on
+returns-in_err-number-clause-goes_on c =
+    let n = pass_goes_on c.args.self.now.inside c.in_ok-pass.ensures.passes in
+    let m = c.in_err-number.ensures.goes_on in
+    omega arith
+
+pub returns-in_err-pass-2-clause-goes_on : goal.returns-in_err-pass-2-clause-goes_on
+returns-in_err-pass-2-clause-goes_on c =
+    let n = pass_goes_on c.args.self.now.inside c.in_ok-pass.ensures.passes in
+    let m = c.in_ok-number.ensures.goes_on in
+    let k = pass_goes_on c.number.new.self.inside c.in_err-pass-2.ensures.passes in
+    omega arith
+
+pub returns-clause-goes_on : goal.returns-clause-goes_on
+returns-clause-goes_on c =
+    let n = pass_goes_on c.args.self.now.inside c.in_ok-pass.ensures.passes in
+    let m = c.in_ok-number.ensures.goes_on in
+    let k = pass_goes_on c.number.new.self.inside c.in_ok-pass-2.ensures.passes in
+    omega arith
