@@ -38,7 +38,7 @@ impl<'a> Keys<'a> {
         self.line.pass(key)
     }
 
-    // A key and bytes in hex.
+    // A key and bytes in hex, as many as have their digits there and find room.
     pub fn bytes(&mut self, key: &[u8]) -> Option<&'a [u8]>
         ensures same_text { self.new.line.text.now ≡ self.old.line.text.now }
         ensures stands { IfSome result (λ bytes.
