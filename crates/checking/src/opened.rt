@@ -17,7 +17,7 @@ use crate::failing::Failure;
 use crate::listing::Listed;
 use loading::card::load;
 use pairs::letters::letters_tried;
-use pairs::opening::open_both;
+use pairs::opening::open_in;
 use refusals::limits::{MOST_LETTERS, MOST_PROOF_RECORDS};
 use store::work::Work;
 
@@ -38,7 +38,7 @@ pub fn check_cards(
     // an array, long enough for every letter: no heap
     let mut space = [0u8; MOST_LETTERS];
     let letters = letters_tried(left, right, &mut space);
-    let (x, y) = open_both(work, left, right)?;
+    let (x, y) = open_in(work, left, right)?;
     check_opened(work, proof, list, letters, x, y)
 }
 

@@ -16,7 +16,7 @@ use crate::refusing::standing;
 use answers::Comparison;
 use loading::beginning::begin;
 use pairs::letters::letters_tried;
-use pairs::opening::open_both;
+use pairs::opening::open_in;
 use refusals::limits::MOST_LETTERS;
 use searching::going::End;
 use searching::table::Table;
@@ -45,13 +45,13 @@ pub fn compare(
     let letters = letters_tried(left, right, &mut space);
     let mut working = begin(work, budget);
     let mut table = Table::empty(pairs);
-    match open_both(&mut working, left, right) {
+    match open_in(&mut working, left, right) {
         Ok((x, y)) => compare_opened(&mut working, &mut table, word, letters, x, y),
         Err(refusal) => Comparison::Refused(refusal.number(), 0, working.places, 0),
     }
 }
 
-// Searches from the opening pair, and tells the end.
+// Searches from the opening pair, of places x and y, and tells the end. The two places stay two parameters, as in the definition.
 fn compare_opened(
     work: &mut Work<'_>,
     table: &mut Table<'_>,

@@ -10,7 +10,7 @@ use runs::item::Item;
 
 // Writes the word of a pair that is reached from the pair numbered `from` by a letter at the start of the word room, and tells its length; the
 // empty word where no pair is placed. Or the word room is too short for it: then the length wanted is told.
-// The pairs are a room and their number here, and no `Table`: less is asked of them than a table promises.
+// The pairs are a room and their number here, and no `Table`: that each pair comes from an earlier one is asked in words, which a table does not promise.
 pub fn tell_word(
     pairs: &[u8],
     placed: usize,

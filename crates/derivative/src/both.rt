@@ -9,7 +9,7 @@ use refusals::refusal::Refusal;
 use store::work::Work;
 
 // Both derived places. Shaped like `open_both` of pairs, with another call in its middle and another promise: a function lent the call would
-// have a longer contract than both.
+// have a longer contract than both. The two places stay two parameters, as in the definition.
 pub fn derive_both(
     work: &mut Work<'_>,
     x: usize,

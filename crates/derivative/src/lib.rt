@@ -100,7 +100,8 @@ fn derive_parts(
     with_left(work, x, right, product, both, letter)
 }
 
-// The left part came to x: makes the product where it is asked for, and goes on.
+// The left part came to x: makes the product where it is asked for, and goes on. It has the shape of `derive_parts`, with another call before it and another
+// definition.
 #[cycle(deriving)]
 fn with_left(
     work: &mut Work<'_>,

@@ -7,4 +7,5 @@ pub mod Tried
 pub mod Opening
 pub mod OpeningRoom
 pub mod OpeningWork
+pub mod OpeningFresh
 pub mod LegalRoom

@@ -6,7 +6,7 @@ ghost use Rattle.refusals.specs.Limits.{most_letters};
 use cards::letters::mentions;
 use refusals::limits::MOST_LETTERS;
 
-// Writes the letters of either card into `letters`, ascending, and answers how many there are.
+// Writes the letters of either card into `letters`, ascending, and answers how many there are: its promise stays, and `letters_tried` hands them on as a slice.
 pub fn tried(left: &[u8], right: &[u8], letters: &mut [u8]) -> usize
     requires { most_letters ≤ length letters.old }
     ensures value { result ≡ length (tried left.now right.now) }

@@ -42,7 +42,7 @@ impl From<u8> for Kind {
 }
 
 // A line of the kind table: whether the table has it; whether the letter is any byte, and else 0; whether left and right each name a
-// child, and else are 0.
+// child, and else are 0. `known` is a flag, since the definition `columns` has it as one.
 #[derive(Clone, Copy)]
 pub struct Columns {
     pub known: bool,

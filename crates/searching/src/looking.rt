@@ -13,7 +13,7 @@ use pairs::table::place;
 use refusals::refusal::Refusal;
 use store::work::Work;
 
-// The pair of the places x and y, reached from the pair numbered `origin` by a letter.
+// The pair of the places x and y, reached from the pair numbered `origin` by a letter. The two places stay two parameters, as in the definition.
 pub fn look(
     work: &Work<'_>,
     table: &mut Table<'_>,

@@ -13,7 +13,7 @@ use crate::table::Table;
 use derivative::both::derive_both;
 use store::work::Work;
 
-// The search from the opening pair, over an empty table: the table is closed, or the search is at an end before.
+// The search from the opening pair, over an empty table: the table is closed, or the search is at an end before. The two places stay two parameters, as in the definition.
 pub fn search(
     work: &mut Work<'_>,
     table: &mut Table<'_>,

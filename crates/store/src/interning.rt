@@ -34,7 +34,7 @@ pub fn intern(room: &mut [u8], places: &mut usize, r: Record) -> Result<usize, R
     Err(Refusal::NoFreePlace)
 }
 
-// The record of this kind, letter and children, with its mark.
+// The record of this kind, letter and children, with its mark. The kind's number may be any, as in the definition.
 pub fn new_record(
     room: &[u8],
     places: usize,
@@ -62,7 +62,7 @@ pub fn new_record(
     }
 }
 
-// What the mark of the record at a place says.
+// What the mark of the record at a place says. `Work::marked` asks it, and the functions here that have no `Work`.
 #[tactic(auto, using(crate::proofs::Laws::Room::child_in_room))]
 pub fn marked_at(room: &[u8], places: usize, place: usize) -> bool
     requires good_store { GoodStore room.now places }

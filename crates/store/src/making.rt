@@ -21,8 +21,7 @@ pub enum Ruled {
     Merges,
 }
 
-// Making a record of the kind with this number and letter, with these children. The number may be any, as in the definition, and so it is no `Kind`, here and
-// where it is handed on.
+// Making a record of the kind with this number and letter, with these children. The number may be any, as in the definition, and so it is no `Kind`.
 pub fn make(
     room: &mut [u8],
     places: &mut usize,

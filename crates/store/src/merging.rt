@@ -1,5 +1,6 @@
 // Making a set: two of its kind, merged by rising place, each member once, and built from the last member backward.
-// On the room and its places, and not on `Work`, as `make` asks it: the store need not be good after any record.
+// On the room and its places, and not on `Work`, as `make` asks it: the store need not be good after any record. The kind is its number, as in the
+// definitions, and as it stands in the records that it is compared with.
 ghost use Rattle.std.specs.Prelude.{◌≡◌, cond, ◌<◌, eqb};
 ghost use Rattle.store.specs.Room.{store_in, places_of};
 ghost use Rattle.store.specs.Making.{placed, put_before, set_of_both};

@@ -23,7 +23,7 @@ pub fn byte_of(high: u8, low: u8) -> Option<u8>
     Some(16 * first + second)
 }
 
-// The digit of a half of a byte, by the definition that the promises speak of.
+// The digit of a half of a byte. The library's `char::from_digit` gives a `char`, to be brought back to a byte: no plainer.
 pub fn digit_of(half: u8) -> u8
     requires { half < 16 }
     ensures { result ≡ hex_digit half }

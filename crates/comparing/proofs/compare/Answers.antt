@@ -40,8 +40,8 @@ begin-working-requires c = (good c.standing.ensures c.in_default.is).room_legal
 pub empty-table-requires : goal.empty-table-requires
 empty-table-requires c = (legal_pair_room _ (good c.standing.ensures c.in_default.is).pair_room_legal).not_large
 
-pub open_both-requires : goal.open_both-requires
-open_both-requires c =
+pub open_in-requires : goal.open_in-requires
+open_in-requires c =
     let u = good c.standing.ensures c.in_default.is in
     record { left_good = u.left_good; right_good = u.right_good }
 
@@ -51,7 +51,7 @@ returns-in-Ok c =
     (lent {word = c.args.word.now} {budget = c.args.budget} (search rules) (search rules) (search rules) (search rules) c.standing.ensures)
     (ap standing_told c.in_default.is)
     c.begin-working.ensures.room_after
-    (opens_fresh c.begin-working.ensures.begun (records c.args.left.now) (records c.args.right.now) c.open_both.ensures.opens)
+    (opens_fresh c.begin-working.ensures.begun (records c.args.left.now) (records c.args.right.now) c.open_in.ensures.opens)
     c.in-Ok.is
     c.letters_tried-letters.ensures
     c.begin-working.ensures.budget
@@ -61,14 +61,14 @@ returns-in-Ok c =
     (search rules)
     (search rules)
 
-pub returns-in-Err-open_both : goal.returns-in-Err-open_both
-returns-in-Err-open_both c =
+pub returns-in-Err-open_in : goal.returns-in-Err-open_in
+returns-in-Err-open_in c =
     told_full
     (lent {word = c.args.word.now} {budget = c.args.budget} (search rules) (search rules) (search rules) (search rules) c.standing.ensures)
     (ap standing_told c.in_default.is)
     c.begin-working.ensures.room_after
-    (opens_fresh c.begin-working.ensures.begun (records c.args.left.now) (records c.args.right.now) c.open_both.ensures.opens)
-    c.in-Err-open_both.is
-    c.number-in-Err-open_both.ensures
+    (opens_fresh c.begin-working.ensures.begun (records c.args.left.now) (records c.args.right.now) c.open_in.ensures.opens)
+    c.in-Err-open_in.is
+    c.number-in-Err-open_in.ensures
     (search rules)
     (search rules)

@@ -13,7 +13,7 @@ returns-in_err-x-clause-tells c =
     rw (told.1, told.2)
     (cards_full (bytes_all a.left.now (λ i. (c.type_inv.left i).fits)) (bytes_all a.right.now (λ i. (c.type_inv.right i).fits))
     c.requires.can_open c.requires.room_legal
-    (opens_fresh c.requires.can_open.begun (records a.left.now) (records a.right.now) c.open_both.ensures.opens) _ a.proof.now a.list.now c.in_err-x.was)
+    (opens_fresh c.requires.can_open.begun (records a.left.now) (records a.right.now) c.open_in.ensures.opens) _ a.proof.now a.list.now c.in_err-x.was)
 
 pub returns-clause-tells : goal.returns-clause-tells
 returns-clause-tells c =
@@ -21,5 +21,5 @@ returns-clause-tells c =
     told_from
     (cards_opened (bytes_all a.left.now (λ i. (c.type_inv.left i).fits)) (bytes_all a.right.now (λ i. (c.type_inv.right i).fits))
     c.requires.can_open c.requires.room_legal
-    (opens_fresh c.requires.can_open.begun (records a.left.now) (records a.right.now) c.open_both.ensures.opens) c.in_ok-x.was)
+    (opens_fresh c.requires.can_open.begun (records a.left.now) (records a.right.now) c.open_in.ensures.opens) c.in_ok-x.was)
     _ a.proof.now a.list.now (rw c.letters_tried-letters.ensures at c.check_opened.ensures.tells)
