@@ -69,3 +69,8 @@ no_byte {at = at} {to = to} {r = r} same p read = no_byte_behind p (subst (λ (s
 pub no_number : {text text' key : List ℕ} {from at to most : ℕ} {done : ⊤} {r : Option ℕ} → text' ≡ text → Passes text from key (Some done) at
     → ReadsNumber text' at most r to → IfNone r (NoneUpTo most text from key)
 no_number {at = at} {to = to} {most = most} {r = r} same p read = no_number_behind p (subst (λ (s : List ℕ). ReadsNumber s at most r to) same read)
+
+-- Reading a byte never goes back.
+pub byte_goes_on : {text : List ℕ} {from to : ℕ} {r : Option ℕ} → ReadsByte text from r to → from ≤ to
+byte_goes_on (reads_byte l b e) = omega arith
+byte_goes_on (reads_no_byte n) = omega arith

@@ -75,6 +75,7 @@ impl<'a> Keys<'a> {
         ensures stands { IfSome result (λ byte.
             Stands self.old.line.text.now self.old.line.at (key.now ++ hex (byte ∷ [])) self.new.line.at) }
         ensures none { IfNone result (NoByte self.old.line.text.now self.old.line.at key.now) }
+        ensures goes_on { self.old.line.at ≤ self.new.line.at }
     {
         self.key(key)?;
         self.line.byte()
@@ -87,6 +88,7 @@ impl<'a> Keys<'a> {
         ensures stands { IfSome result (λ size.
             Stands self.old.line.text.now self.old.line.at (key.now ++ decimal size) self.new.line.at) }
         ensures none { IfNone result (NoneUpTo LARGEST_ROOM self.old.line.text.now self.old.line.at key.now) }
+        ensures goes_on { self.old.line.at ≤ self.new.line.at }
         ensures no_larger { IfSome result (λ size. size ≤ LARGEST_ROOM) }
     {
         let size = self.number(key, LARGEST_ROOM as u32)?;
@@ -100,6 +102,7 @@ impl<'a> Keys<'a> {
         ensures stands { IfSome result (λ budget.
             Stands self.old.line.text.now self.old.line.at (key.now ++ decimal budget) self.new.line.at) }
         ensures none { IfNone result (NoneUpTo MOST_BUDGET self.old.line.text.now self.old.line.at key.now) }
+        ensures goes_on { self.old.line.at ≤ self.new.line.at }
     {
         self.number(key, MOST_BUDGET)
     }
@@ -122,6 +125,7 @@ impl<'a> Keys<'a> {
         ensures stands { IfSome result (λ number.
             Stands self.old.line.text.now self.old.line.at (key.now ++ decimal number) self.new.line.at) }
         ensures none { IfNone result (NoneUpTo most self.old.line.text.now self.old.line.at key.now) }
+        ensures goes_on { self.old.line.at ≤ self.new.line.at }
         ensures no_larger { IfSome result (λ number. number ≤ most) }
     {
         self.key(key)?;
