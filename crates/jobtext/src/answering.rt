@@ -2,13 +2,14 @@
 ghost use Rattle.std.specs.Prelude.{◌≡◌, ◌++◌, ◌+◌, ◌≤◌, length};
 ghost use Rattle.text.specs.Told.{Puts};
 ghost use Rattle.jobtext.specs.Answer.{lent_word, refused_text, two_counts, three_counts, same_text, different_text};
+ghost use Rattle.jobtext.specs.Promise.{most_answer};
 ghost use Rattle.jobtext.specs.Told.{Lays, most_verdict, most_two_counts, most_three_counts};
 
-use crate::MOST_ANSWER;
 use text::writing::Writer;
 
 // A refusal, by its number: the answers at the door tell it so.
-pub fn lay_refusal(out: &mut [u8; MOST_ANSWER], number: u8) -> usize
+pub fn lay_refusal(out: &mut [u8], number: u8) -> usize
+    requires { most_answer ≤ length out.old }
     ensures { Lays out.old (refused_text number) result out.new }
 {
     let mut writer = Writer::new(out);
@@ -18,8 +19,9 @@ pub fn lay_refusal(out: &mut [u8; MOST_ANSWER], number: u8) -> usize
 }
 
 // The answer of a match: the line of its verdict, the places and the visits.
-pub fn lay_match(out: &mut [u8; MOST_ANSWER], verdict: &[u8], places: usize, visits: u32) -> usize
-    requires { length verdict.now ≤ most_verdict }
+pub fn lay_match(out: &mut [u8], verdict: &[u8], places: usize, visits: u32) -> usize
+    requires most_answer_in_bounds { most_answer ≤ length out.old }
+    requires verdict_short { length verdict.now ≤ most_verdict }
     ensures { Lays out.old (verdict.now ++ two_counts places visits) result out.new }
 {
     let mut writer = Writer::new(out);
@@ -29,7 +31,8 @@ pub fn lay_match(out: &mut [u8; MOST_ANSWER], verdict: &[u8], places: usize, vis
 }
 
 // "Same", with the three counts. Beside `lay_match` it has a fixed verdict and one line more, in its own order.
-pub fn lay_same(out: &mut [u8; MOST_ANSWER], pairs: usize, places: usize, visits: u32) -> usize
+pub fn lay_same(out: &mut [u8], pairs: usize, places: usize, visits: u32) -> usize
+    requires { most_answer ≤ length out.old }
     ensures { Lays out.old (same_text pairs places visits) result out.new }
 {
     let mut writer = Writer::new(out);
@@ -40,13 +43,14 @@ pub fn lay_same(out: &mut [u8; MOST_ANSWER], pairs: usize, places: usize, visits
 
 // "Different", with the word, the side that has it and the three counts.
 pub fn lay_different(
-    out: &mut [u8; MOST_ANSWER],
+    out: &mut [u8],
     word: &[u8],
     side: &[u8],
     pairs: usize,
     places: usize,
     visits: u32,
 ) -> usize
+    requires most_answer_in_bounds { most_answer ≤ length out.old }
     requires word_short { length word.now ≤ lent_word }
     requires side_short { length side.now ≤ most_verdict }
     ensures { Lays out.old (different_text word.now side.now pairs places visits) result out.new }

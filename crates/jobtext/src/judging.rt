@@ -2,9 +2,9 @@
 ghost use Rattle.std.specs.Prelude.{◌≤◌, ◌≡◌, length};
 ghost use Rattle.jobform.specs.Form.{compare_job, match_job};
 ghost use Rattle.jobtext.specs.Answer.{answer_text};
+ghost use Rattle.jobtext.specs.Promise.{most_answer};
 ghost use Rattle.jobtext.specs.Told.{Lays, word_told, told_text};
 
-use crate::MOST_ANSWER;
 use crate::answering::{lay_different, lay_match, lay_refusal, lay_same};
 use crate::lent::{LENT_PAIRS, LENT_WORD, LENT_WORK};
 use answers::{Comparison, Match};
@@ -19,8 +19,9 @@ pub fn compare_job(
     work: &mut [u8; LENT_WORK],
     pairs: &mut [u8; LENT_PAIRS],
     word: &mut [u8; LENT_WORD],
-    out: &mut [u8; MOST_ANSWER],
+    out: &mut [u8],
 ) -> usize
+    requires { most_answer ≤ length out.old }
     ensures { Lays out.old (answer_text (compare_job left.now right.now budget)) result out.new }
 {
     let answer = compare(left, right, work, pairs, word, budget);
@@ -33,8 +34,9 @@ pub fn match_job(
     word: &[u8],
     budget: u32,
     work: &mut [u8; LENT_WORK],
-    out: &mut [u8; MOST_ANSWER],
+    out: &mut [u8],
 ) -> usize
+    requires { most_answer ≤ length out.old }
     ensures { Lays out.old (answer_text (match_job left.now word.now budget)) result out.new }
 {
     match fits(left, word, work, budget) {
@@ -45,8 +47,9 @@ pub fn match_job(
 }
 
 // The text of what a comparison tells. The word of a difference stands at the start of the word room.
-fn lay_comparison(out: &mut [u8; MOST_ANSWER], answer: Comparison, word: &[u8; LENT_WORD]) -> usize
-    requires { word_told answer ≤ length word.now }
+fn lay_comparison(out: &mut [u8], answer: Comparison, word: &[u8; LENT_WORD]) -> usize
+    requires most_answer_in_bounds { most_answer ≤ length out.old }
+    requires word_told_length { word_told answer ≤ length word.now }
     ensures { Lays out.old (told_text answer word.now) result out.new }
 {
     match answer {

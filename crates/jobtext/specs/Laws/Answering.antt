@@ -18,6 +18,10 @@ pub lays : {out : List ℕ} {text : List ℕ} {to : ℕ} {out' : List ℕ} → P
     → Lays out text to out'
 lays p l m = record { short = l; fits = le_trans l m; stands = p.stands; rest = p.rest }
 
+-- The same of the room afterwards, which is what the writer leaves.
+pub lays_there : {lent text : List ℕ} {to : ℕ} {out out' : List ℕ} → Lays lent text to out → out' ≡ out → Lays lent text to out'
+lays_there l e = rw e l
+
 -- The answer to the job read is the answer to the text.
 job_answered : {text left second : List ℕ} {l s : ℕ} (j : Job) {lent : List ℕ} {to : ℕ} {out : List ℕ} → JobRead text left second l s j
     → length text ≤ most_job → Lays lent (answer_text j) to out → AnswersIn text lent to out

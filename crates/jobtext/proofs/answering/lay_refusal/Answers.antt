@@ -5,7 +5,8 @@ use lib.ListN.{length}
 use Rattle.text.specs.Ascii.{ascii}
 use Rattle.jobtext.specs.Answer.{refused_text}
 use Rattle.text.specs.Laws.Writing.{put_both}
-use Rattle.jobtext.specs.Laws.Answering.{lays}
+use Rattle.std.proofs.Common.{rules}
+use Rattle.jobtext.specs.Laws.Answering.{lays, lays_there}
 use Rattle.jobtext.proofs.answering.lay_refusal.Goals as goal
 
 pub returns : goal.returns
@@ -15,5 +16,7 @@ returns c =
     let first = rw (n.contents, n.place) at c.put.ensures.puts in
     let e = first.ends in
     let l = c.number.ensures.upper_bound in
-    lays (put_both first c.number.ensures.puts) (omega arith)
-    (omega (arith, c.number.ensures.as_long, c.put.ensures.as_long, ap length n.contents, c.told-out))
+    lays_there
+    (lays (put_both first c.number.ensures.puts) (omega arith)
+    (omega (arith, c.number.ensures.as_long, c.put.ensures.as_long, ap length n.contents, c.requires)))
+    (search rules)

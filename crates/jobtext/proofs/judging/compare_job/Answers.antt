@@ -4,7 +4,8 @@ use Rattle.jobtext.specs.Laws.Judging.{word_inside, comparison_laid}
 use Rattle.jobtext.proofs.judging.compare_job.Goals as goal
 
 pub lay_comparison-requires : goal.lay_comparison-requires
-lay_comparison-requires c = word_inside c.compare-answer.result c.compare-answer.ensures
+lay_comparison-requires c =
+    record { most_answer_in_bounds = c.requires; word_told_length = word_inside c.compare-answer.result c.compare-answer.ensures }
 
 pub returns : goal.returns
 returns c =

@@ -9,24 +9,32 @@ use Rattle.jobtext.specs.Laws.Judging.{laid_as, word_within, word_short, differe
 use Rattle.jobtext.proofs.judging.lay_comparison.Goals as goal
 
 pub slice_bounds-lay_different-end : goal.slice_bounds-lay_different-end
-slice_bounds-lay_different-end c = omega (arith, word_within c.args.word.now c.in-Different.is c.requires, c.told-word)
+slice_bounds-lay_different-end c = omega (arith, word_within c.args.word.now c.in-Different.is c.requires.word_told_length, c.told-word)
 
 pub lay_different-requires : goal.lay_different-requires
 lay_different-requires c =
     let a = c in
     let s = a in
     let r = s.args.word.now in
-    record { word_short = word_short r (word_within r a.in-Different.is s.requires) s.told-word; side_short = lit≤ tt }
+    record {
+      most_answer_in_bounds = s.requires.most_answer_in_bounds;
+      word_short = word_short r (word_within r a.in-Different.is s.requires.word_told_length) s.told-word;
+      side_short = lit≤ tt;
+    }
 
 pub slice_bounds-lay_different-end-else-left_has : goal.slice_bounds-lay_different-end-else-left_has
-slice_bounds-lay_different-end-else-left_has c = omega (arith, word_within c.args.word.now c.in-Different.is c.requires, c.told-word)
+slice_bounds-lay_different-end-else-left_has c = omega (arith, word_within c.args.word.now c.in-Different.is c.requires.word_told_length, c.told-word)
 
 pub lay_different-requires-else-left_has : goal.lay_different-requires-else-left_has
 lay_different-requires-else-left_has c =
     let a = c in
     let s = a in
     let r = s.args.word.now in
-    record { word_short = word_short r (word_within r a.in-Different.is s.requires) s.told-word; side_short = lit≤ tt }
+    record {
+      most_answer_in_bounds = s.requires.most_answer_in_bounds;
+      word_short = word_short r (word_within r a.in-Different.is s.requires.word_told_length) s.told-word;
+      side_short = lit≤ tt;
+    }
 
 pub returns-in-Same : goal.returns-in-Same
 returns-in-Same c = let a = c in laid_as a.args.word.now (Same _ _ _) a.in-Same.is c.lay_same.ensures
