@@ -101,7 +101,14 @@ fn mark_right(card: &[u8], r: Record) -> bool
 {
     let left = marked_at(card, r.left as usize);
     let right = marked_at(card, r.right as usize);
-    r.mark == as_mark(has_empty(Kind::from(r.kind), left, right))
+    same_mark(r.mark, as_mark(has_empty(Kind::from(r.kind), left, right)))
+}
+
+// Whether a mark is the one wanted.
+fn same_mark(mark: u8, wanted: u8) -> bool
+    ensures { result ≡ eqb mark wanted }
+{
+    mark == wanted
 }
 
 // What the mark of the record numbered `at` says; no where there is no such record.

@@ -1,6 +1,6 @@
 // Finding an identical record.
 // On the room and its places, and not on `Work`, as `intern` asks it: the store need not be good after any record.
-ghost use Rattle.std.specs.Prelude.{◌≡◌, ℕ, ◌≤◌};
+ghost use Rattle.std.specs.Prelude.{◌≡◌, ℕ, ◌≤◌, max};
 ghost use Rattle.cards.specs.Standing.{ChildField, Obeys};
 ghost use Rattle.store.specs.Room.{store_in};
 ghost use Rattle.store.specs.Making.{find};
@@ -29,7 +29,10 @@ fn above_children(r: Record) -> usize
     ensures { (k : ℕ) → Obeys k r → (result ≤ k) × Obeys result r }
 {
     let line = columns_of(Kind::from(r.kind));
-    above_child(line.left, r.left).max(above_child(line.right, r.right))
+    higher(
+        above_child(line.left, r.left),
+        above_child(line.right, r.right),
+    )
 }
 
 // The first place at which a field is right, where there is one: above the child that it names, and any place where it names none.
@@ -40,4 +43,11 @@ fn above_child(child: bool, field: u16) -> usize
         return field as usize + 1;
     }
     0
+}
+
+// The higher of two places.
+fn higher(one: usize, other: usize) -> usize
+    ensures { result ≡ max one other }
+{
+    one.max(other)
 }

@@ -4,6 +4,7 @@ use Rattle.cards.proofs.examine.mark_right.Goals as goal
 pub returns : goal.returns
 returns c =
     rw (
+      c.same_mark.ensures,
       c.as_mark.ensures,
       c.has_empty.ensures,
       c.from.ensures,

@@ -46,4 +46,4 @@ returns c =
     c.columns_of-line.ensures
     c.above_child.ensures
     c.above_child-2.ensures
-    c.max.ensures
+    c.higher.ensures
