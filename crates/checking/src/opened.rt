@@ -58,7 +58,10 @@ pub fn check_opened(
 {
     // an array, long enough for every card: no heap
     let mut map = [0u16; MOST_PROOF_RECORDS];
-    load(work, proof, &mut map)?;
+    // written out, so that the refusal of the proof card stands in one place of its own
+    if let Err(refusal) = load(work, proof, &mut map) {
+        return Err(Failure::Refused(refusal));
+    }
     let listed = Listed { list, map: &map };
     check_list(work, listed, letters, x, y)
 }
