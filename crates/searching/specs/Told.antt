@@ -8,7 +8,7 @@ use Rattle.refusals.specs.Number.{number}
 use Rattle.refusals.specs.Limits.{most_pairs, most_pair_room}
 use Rattle.records.specs.declared.record.Record.{Record}
 use Rattle.store.specs.declared.work.Work.{Work}
-use Rattle.store.specs.Room.{laid}
+use Rattle.store.specs.Room.{store_in, laid}
 use Rattle.store.specs.Work.{store_of}
 use Rattle.pairs.specs.declared.pair.Pair.{Pair}
 use Rattle.pairs.specs.Room.{table_in, laid_pairs}
@@ -59,6 +59,12 @@ pub data TellsSearch (store : List Record) (table : List Pair) (budget : ℕ) : 
 pub record Goes (w : Work) (t : Table) (g : Going) (answer : Result (Unit {0}) End) (w' : Work) (t' : Table) : Type 0 where
   pub tells : TellsGoing (store_of w') (table_of t') w'.budget g answer
   pub work_room : w'.room.now ≡ laid (store_of w') w.room.now
+  pub pair_room : t'.room.now ≡ laid_pairs (table_of t') t.room.now
+
+-- The same in a room that is only read, over the store of so many places there: that store is the one told, with this budget left.
+pub record GoesIn (room : List ℕ) (places budget : ℕ) (t : Table) (g : Going) (answer : Result (Unit {0}) End) (t' : Table) : Type 0 where
+  pub tells : TellsGoing (store_in room places) (table_of t') budget g answer
+  pub work_room : room ≡ laid (store_in room places) room
   pub pair_room : t'.room.now ≡ laid_pairs (table_of t') t.room.now
 
 pub record Ends (w : Work) (t : Table) (s : Search) (answer : Result (Unit {0}) End) (w' : Work) (t' : Table) : Type 0 where

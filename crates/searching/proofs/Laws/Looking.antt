@@ -24,8 +24,6 @@ use Rattle.searching.specs.Told.{table_of, found_word}
 use Rattle.searching.specs.Laws.Keeps.{Tabled}
 use Rattle.searching.specs.declared.table.Table.{Table}
 use Rattle.searching.proofs.Laws.Told.{Different, Stopped, CodeGoing, On, EndsCode, GoodPairs, good_pairs, tells_different, tells_stopped, TellsGoing, tells_on, tells_ends, going_store, going_table, GoesRooms}
-use Rattle.store.specs.declared.work.Work.{Work}
-use Rattle.store.specs.Work.{store_of}
 use Rattle.searching.proofs.Laws.Keeps.{KeepsGoing, look_keeps}
 use Rattle.searching.proofs.Laws.Rooms.{stood_first, good_pairs_now, went_on, stood_on}
 
@@ -45,9 +43,9 @@ pub record Looking (work : List ℕ) (places : ℕ) (pairs : List ℕ) (placed x
   pub good_pairs : GoodPairs pairs placed work places
   pub from : origin ≤ placed - 1
 
-pub looking : (w : Work) (t : Table) {x y origin : ℕ} → (x < w.places) × (y < w.places) → Tabled (pairs_of t.room.now) (store_of w) (table_of t)
-    → origin ≤ t.pairs - 1 → Looking w.room.now w.places t.room.now t.pairs x y origin
-looking w t i d f = record { good = w.good; inside = i; good_pairs = good_pairs t.good d; from = f }
+pub looking : {room : List ℕ} {places : ℕ} (t : Table) {x y origin : ℕ} → GoodStore room places → (x < places) × (y < places)
+    → Tabled (pairs_of t.room.now) (store_in room places) (table_of t) → origin ≤ t.pairs - 1 → Looking room places t.room.now t.pairs x y origin
+looking t g i d f = record { good = g; inside = i; good_pairs = good_pairs t.good d; from = f }
 
 module _ {work : List ℕ} {places : ℕ} {pairs : List ℕ} {placed x y origin : ℕ} (c : Looking work places pairs placed x y origin) (letter left : ℕ) where
   abbrev store : List Record

@@ -1,5 +1,5 @@
 -- What is told of the parts of a search, with the places then taken, the pairs placed and the budget left, as one value: the laws of rooms go by it, and
--- the contracts' `Goes` and `Ends` say the same.
+-- the contracts' `Goes`, `GoesIn` and `Ends` say the same.
 use Rattle.std.specs.Prelude.{ℕ, ◌-◌, ◌≤◌, Bool, List, ◌≡◌, refl, length}
 use Rattle.std.proofs.Common.{arith, sym, ◌∙◌, ap, ap₂}
 use Rattle.std.specs.declared.result.Result.{Result}
@@ -21,7 +21,7 @@ use Rattle.searching.specs.declared.going.End.TheVariants.{Different as differs,
 use Rattle.searching.specs.declared.table.Table.{Table}
 use Rattle.searching.specs.Search.{Search, same, different, stopped, Going, on, ends}
 use Rattle.searching.specs.Table.{GoodTable}
-use Rattle.searching.specs.Told.{found_word, table_of, Goes, Ends}
+use Rattle.searching.specs.Told.{found_word, table_of, Goes, GoesIn, Ends}
 use Rattle.searching.specs.Told.{TellsEnd as EndTold, tells_different as different_told, tells_refused as refused_told}
 use Rattle.searching.specs.Told.{TellsGoing as GoingTold, tells_on as on_told, tells_ends as ends_told}
 use Rattle.searching.specs.Told.{TellsSearch as SearchTold, tells_same as same_told, tells_before as before_told}
@@ -220,8 +220,11 @@ search_left (Err end) taken placed budget t e =
     let k = end_left t end taken placed budget e in
     record { is = before_told k.is; taken_is = k.taken_is; placed_is = k.placed_is }
 
+store_left_in : (room : List ℕ) {store : List Record} {room' : List ℕ} {taken : ℕ} → taken ≡ length store → room' ≡ laid store room → store_in room' taken ≡ store
+store_left_in room {store} p r = ap₂ store_in r p ∙ store_of_laid store room
+
 store_left : (w : Work) {store : List Record} (w' : Work) → w'.places ≡ length store → w'.room.now ≡ laid store w.room.now → store_of w' ≡ store
-store_left w {store} w' p r = ap₂ store_in r p ∙ store_of_laid store w.room.now
+store_left w w' p r = store_left_in w.room.now p r
 
 table_left : (t : Table) {table : List Pair} (t' : Table) → t'.pairs ≡ length table → t'.room.now ≡ laid_pairs table t.room.now → table_of t' ≡ table
 table_left t {table} t' p r = ap₂ table_in r p ∙ table_of_laid table t.room.now
@@ -235,6 +238,19 @@ rooms_go {w} {t} {g} answer {w'} {t'} k =
     record {
       tells = rw (s, p) l.is;
       work_room = k.work_room ∙ ap (λ (s : List Record). laid s w.room.now) (sym s);
+      pair_room = k.pair_room ∙ ap (λ (p : List Pair). laid_pairs p t.room.now) (sym p);
+    }
+
+-- In a room that is only read.
+pub rooms_go_in : {room : List ℕ} {places budget : ℕ} {t : Table} {g : Going} (answer : Result (Unit {0}) CodeEnd) {t' : Table}
+    → GoesRooms room t.room.now g (going_of answer places t'.pairs budget) room t'.room.now → GoesIn room places budget t g answer t'
+rooms_go_in {room} {places} {budget} {t} {g} answer {t'} k =
+    let l = going_left k.tells answer places t'.pairs budget refl in
+    let s = store_left_in room l.taken_is k.work_room in
+    let p = table_left t t' l.placed_is k.pair_room in
+    record {
+      tells = rw (s, p) l.is;
+      work_room = k.work_room ∙ ap (λ (s : List Record). laid s room) (sym s);
       pair_room = k.pair_room ∙ ap (λ (p : List Pair). laid_pairs p t.room.now) (sym p);
     }
 

@@ -1,43 +1,7 @@
--- `look` answers by its tests as the definition does: the marks read in the work room are those of the store that stands there, the pair is
--- looked up in the table that stands in the pair room, and placed behind it.
-use native.Mathlib.Omega.{arith}
-use Rattle.searching.proofs.Laws.Told.{rooms_go}
-use Rattle.searching.proofs.Laws.Looking.{looking, look_differs, look_stands, look_placed, look_full, look_leaves}
+-- `look` looks in the room of what the call works with, and with the budget that it has.
 use Rattle.searching.proofs.looking.look.Goals as goal
-
-pub returns-then-left_has-right_has-clause-goes : goal.returns-then-left_has-right_has-clause-goes
-returns-then-left_has-right_has-clause-goes c =
-    let a = c.args in
-    let call = looking a.work.now a.table.now c.requires.stand c.requires.tabled c.requires.origin_placed in
-    rooms_go _
-    (look_differs call a.letter a.work.now.budget c.marked-left_has.ensures c.marked-right_has.ensures c.if-left_has-right_has.true)
-
-pub returns-then-has-clause-goes : goal.returns-then-has-clause-goes
-returns-then-has-clause-goes c =
-    let a = c.args in
-    let call = looking a.work.now a.table.now c.requires.stand c.requires.tabled c.requires.origin_placed in
-    rooms_go _
-    (look_stands call a.letter a.work.now.budget c.marked-left_has.ensures c.marked-right_has.ensures c.if-left_has-right_has.false c.has.ensures c.if-has.true)
-
-pub returns-then-table-clause-goes : goal.returns-then-table-clause-goes
-returns-then-table-clause-goes c =
-    let a = c.args in
-    let call = looking a.work.now a.table.now c.requires.stand c.requires.tabled c.requires.origin_placed in
-    rooms_go _
-    (look_full call a.letter a.work.now.budget c.marked-left_has.ensures c.marked-right_has.ensures c.if-left_has-right_has.false c.has.ensures c.if-has.false (omega arith))
-
-pub invariant_of-table : goal.invariant_of-table
-invariant_of-table c =
-    let a = c.args in
-    let call = looking a.work.now a.table.now c.requires.stand c.requires.tabled c.requires.origin_placed in
-    record {
-      good = look_leaves call a.letter a.work.now.budget c.ranges.letter.fits
-          (look_placed call a.letter a.work.now.budget c.marked-left_has.ensures c.marked-right_has.ensures c.if-left_has-right_has.false c.has.ensures c.if-has.false (omega arith) c.place.ensures);
-    }
 
 pub returns-clause-goes : goal.returns-clause-goes
 returns-clause-goes c =
-    let a = c.args in
-    let call = looking a.work.now a.table.now c.requires.stand c.requires.tabled c.requires.origin_placed in
-    rooms_go _
-    (look_placed call a.letter a.work.now.budget c.marked-left_has.ensures c.marked-right_has.ensures c.if-left_has-right_has.false c.has.ensures c.if-has.false (omega arith) c.place.ensures)
+    let told = c.look_in.ensures.goes c.args.work.now.budget in
+    record { tells = told.tells; work_room = told.work_room; pair_room = told.pair_room }
