@@ -9,6 +9,15 @@ use lines::reading::each_line;
 use std::io;
 use std::io::{Read, Write};
 
+// The words that a line begins with.
+#[derive(Clone, Copy)]
+enum Word {
+    Match,
+    Compare,
+    Check,
+    Job,
+}
+
 // What a line asks for.
 #[derive(Clone, Copy)]
 enum Asked<'a> {
@@ -33,11 +42,35 @@ fn answer_line<W: Write>(output: &mut W, line: Option<&[u8]>) -> io::Result<()> 
     output.flush()
 }
 
-// Writes the answer to a line, and tells whether the line is of some form.
+// Writes the answer to a line, and tells whether the line is of some form. The word is looked at before room is made for the line's bytes.
 fn answer<W: Write>(output: &mut W, line: &[u8]) -> io::Result<bool> {
+    match word_of(line) {
+        Some((word, keys)) => answer_word(output, word, keys),
+        None => Ok(false),
+    }
+}
+
+// The word that a line begins with, and the keys behind it.
+fn word_of(line: &[u8]) -> Option<(Word, &[u8])> {
+    if let Some(keys) = line.strip_prefix(b"match") {
+        return Some((Word::Match, keys));
+    }
+    if let Some(keys) = line.strip_prefix(b"compare") {
+        return Some((Word::Compare, keys));
+    }
+    if let Some(keys) = line.strip_prefix(b"check") {
+        return Some((Word::Check, keys));
+    }
+    let keys = line.strip_prefix(b"job")?;
+    Some((Word::Job, keys))
+}
+
+// Writes the answer to a line that begins with a word. It stays a call of its own, so that no other line pays for its room.
+#[inline(never)]
+fn answer_word<W: Write>(output: &mut W, word: Word, keys: &[u8]) -> io::Result<bool> {
     // the array stays: no heap
     let mut room = [0; SPELLED];
-    match read(line, &mut room) {
+    match read(word, Keys::new(keys, &mut room)) {
         Some(Asked::Match(call)) => call.answer(output)?,
         Some(Asked::Compare(call)) => call.answer(output)?,
         Some(Asked::Check(call)) => call.answer(output)?,
@@ -47,15 +80,12 @@ fn answer<W: Write>(output: &mut W, line: &[u8]) -> io::Result<bool> {
     Ok(true)
 }
 
-// Reads a line by its first word.
-fn read<'a>(line: &'a [u8], room: &'a mut [u8]) -> Option<Asked<'a>> {
-    let end = line.iter().position(|byte| *byte == b' ')?;
-    let keys = Keys::new(&line[end..], room);
-    match &line[..end] {
-        b"match" => Matching::read(keys).map(Asked::Match),
-        b"compare" => Comparing::read(keys).map(Asked::Compare),
-        b"check" => Checking::read(keys).map(Asked::Check),
-        b"job" => Job::read(keys).map(Asked::Job),
-        _ => None,
+// Reads the keys by their word.
+fn read<'a>(word: Word, keys: Keys<'_, 'a>) -> Option<Asked<'a>> {
+    match word {
+        Word::Match => Matching::read(keys).map(Asked::Match),
+        Word::Compare => Comparing::read(keys).map(Asked::Compare),
+        Word::Check => Checking::read(keys).map(Asked::Check),
+        Word::Job => Job::read(keys).map(Asked::Job),
     }
 }

@@ -22,7 +22,7 @@ pub struct Checking<'a> {
 
 impl<'a> Checking<'a> {
     // Reads the line's keys.
-    pub fn read(mut keys: Keys<'a>) -> Option<Self> {
+    pub fn read(mut keys: Keys<'_, 'a>) -> Option<Self> {
         let left = keys.bytes(b" left=")?;
         let right = keys.bytes(b" right=")?;
         let proof = keys.bytes(b" proof=")?;

@@ -31,7 +31,7 @@ struct Told {
 
 impl<'a> Comparing<'a> {
     // Reads the line's keys. The word room begins with nothing of an earlier call.
-    pub fn read(mut keys: Keys<'a>) -> Option<Self> {
+    pub fn read(mut keys: Keys<'_, 'a>) -> Option<Self> {
         let left = keys.bytes(b" left=")?;
         let right = keys.bytes(b" right=")?;
         let work = keys.size(b" work=")?;

@@ -14,7 +14,7 @@ pub struct Job<'a> {
 
 impl<'a> Job<'a> {
     // Reads the line's keys.
-    pub fn read(mut keys: Keys<'a>) -> Option<Self> {
+    pub fn read(mut keys: Keys<'_, 'a>) -> Option<Self> {
         let text = keys.bytes(b" text=")?;
         keys.end()?;
         Some(Job { text })

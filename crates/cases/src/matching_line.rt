@@ -19,7 +19,7 @@ pub struct Matching<'a> {
 
 impl<'a> Matching<'a> {
     // Reads the line's keys.
-    pub fn read(mut keys: Keys<'a>) -> Option<Self> {
+    pub fn read(mut keys: Keys<'_, 'a>) -> Option<Self> {
         let card = keys.bytes(b" card=")?;
         let word = keys.bytes(b" word=")?;
         let work = read_work(&mut keys)?;

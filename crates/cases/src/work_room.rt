@@ -6,7 +6,7 @@ use std::io;
 use std::io::Write;
 
 // Reads the room's keys.
-pub fn read_work<'a>(keys: &mut Keys<'a>) -> Option<Lent<'a>> {
+pub fn read_work<'a>(keys: &mut Keys<'_, 'a>) -> Option<Lent<'a>> {
     let size = keys.size(b" work=")?;
     let fill = keys.byte(b" fill=")?;
     let was = keys.bytes_or_none(b" was=");

@@ -11,16 +11,16 @@ use text::reading::Reader;
 // The bytes that the longest line can spell. They have an array of a fixed size, since there is to be no heap.
 pub const SPELLED: usize = 200000;
 
-// A line as far as it is read, and what is left of the room for the bytes that it spells.
+// A line as far as it is read, and what is left of the room for the bytes that it spells. The bytes stand in the room, and may outlive the line.
 #[derive(Drop)]
-pub struct Keys<'a> {
-    pub line: Reader<'a>,
-    pub room: &'a mut [u8],
+pub struct Keys<'l, 'r> {
+    pub line: Reader<'l>,
+    pub room: &'r mut [u8],
 }
 
-impl<'a> Keys<'a> {
+impl<'l, 'r> Keys<'l, 'r> {
     // A line that is not read yet.
-    pub fn new(line: &'a [u8], room: &'a mut [u8]) -> Self
+    pub fn new(line: &'l [u8], room: &'r mut [u8]) -> Self
         ensures text { result.line.text.now ≡ line.now }
         ensures place { result.line.at ≡ 0 }
         ensures room { result.room.now ≡ room.old }
@@ -39,7 +39,7 @@ impl<'a> Keys<'a> {
     }
 
     // A key and bytes in hex, as many as have their digits there and find room.
-    pub fn bytes(&mut self, key: &[u8]) -> Option<&'a [u8]>
+    pub fn bytes(&mut self, key: &[u8]) -> Option<&'r [u8]>
         ensures same_text { self.new.line.text.now ≡ self.old.line.text.now }
         ensures stands { IfSome result (λ bytes.
             Stands self.old.line.text.now self.old.line.at (key.now ++ hex bytes.now) self.new.line.at) }
@@ -58,7 +58,7 @@ impl<'a> Keys<'a> {
     }
 
     // The same, of a key that may be left out: there are then none.
-    pub fn bytes_or_none(&mut self, key: &[u8]) -> &'a [u8]
+    pub fn bytes_or_none(&mut self, key: &[u8]) -> &'r [u8]
         ensures same_text { self.new.line.text.now ≡ self.old.line.text.now }
         ensures stands { Stands self.old.line.text.now self.old.line.at (key.now ++ hex result.now) self.new.line.at
             × DigitsEnd self.old.line.text.now self.new.line.at (length result.now) (length self.old.room.now)

@@ -107,26 +107,25 @@ fn answer_each<F: FnMut(Option<&[u8]>) -> io::Result<()>>(
         → GoesOn LONGEST F.step answer.old came bytes.now answer.new line.new) }
 {
     for byte in bytes {
-        answer_at(line, *byte, answer)?;
+        if *byte == LINE_FEED {
+            answer_kept(line, answer)?;
+            continue;
+        }
+        line.keep(*byte);
     }
     Ok(())
 }
 
-// Takes one byte more: one of the line, or the line's end.
-fn answer_at<F: FnMut(Option<&[u8]>) -> io::Result<()>>(
+// Takes a line's end: has the line answered, and another line comes.
+fn answer_kept<F: FnMut(Option<&[u8]>) -> io::Result<()>>(
     line: &mut Line,
-    byte: u8,
     answer: &mut F,
 ) -> io::Result<()>
     requires { F.IsAlwaysCallable answer.old }
     ensures callable { F.IsAlwaysCallable answer.new }
     ensures answers { OnOk result ((came : List ℕ) → Holds LONGEST line.old came → length came < usize.MAX
-        → GoesOn LONGEST F.step answer.old came (byte ∷ []) answer.new line.new) }
+        → GoesOn LONGEST F.step answer.old came (LINE_FEED ∷ []) answer.new line.new) }
 {
-    if byte != LINE_FEED {
-        line.keep(byte);
-        return Ok(());
-    }
     answer(line.text())?;
     line.clear();
     Ok(())

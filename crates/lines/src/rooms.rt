@@ -26,12 +26,19 @@ impl<'a> Lent<'a> {
         ensures size { length result.now ≡ self.now.size }
         ensures bytes { IsAsLent result.now 0 self.now.fill self.now.was.now }
     {
-        let size = self.size;
-        let room = &mut space[..size];
-        let kept = self.was.len().min(size);
+        let room = &mut space[..self.size];
+        self.lay_in(room);
+        room
+    }
+
+    // The same bytes, laid in the whole of a room of any size.
+    pub fn lay_in(&self, room: &mut [u8])
+        ensures size { length room.new ≡ length room.old }
+        ensures bytes { IsAsLent room.new 0 self.now.fill self.now.was.now }
+    {
+        let kept = self.was.len().min(room.len());
         room.fill(self.fill);
         room[..kept].copy_from_slice(&self.was[..kept]);
-        room
     }
 
     // Whether every byte of the room from a place on is as it was lent.
