@@ -19,6 +19,7 @@ use loading::card::load;
 use pairs::letters::letters_tried;
 use pairs::opening::open_in;
 use refusals::limits::{MOST_LETTERS, MOST_PROOF_RECORDS};
+use refusals::refusal::Refusal;
 use store::work::Work;
 
 // The two pattern cards are opened, and the list is checked by the letters of either.
@@ -58,9 +59,9 @@ pub fn check_opened(
 {
     // an array, long enough for every card: no heap
     let mut map = [0u16; MOST_PROOF_RECORDS];
-    // written out, so that the refusal of the proof card stands in one place of its own
-    if let Err(refusal) = load(work, proof, &mut map) {
-        return Err(Failure::Refused(refusal));
+    // written out and no `?`: the one refusal of loading, in a place of its own
+    if let Err(_) = load(work, proof, &mut map) {
+        return Err(Failure::Refused(Refusal::NoFreePlace));
     }
     let listed = Listed { list, map: &map };
     check_list(work, listed, letters, x, y)

@@ -23,7 +23,6 @@ use Rattle.store.proofs.Laws.Room.{store_of_laid}
 use Rattle.store.proofs.Laws.GoodRoom.{room_ready, length_store_in}
 use Rattle.loading.specs.Loading.{Loading, loaded, no_room, load}
 use Rattle.loading.specs.Told.{Loadable, Loads, Mapped}
-use Rattle.loading.proofs.Laws.Told.{loading_full_by}
 use Rattle.loading.proofs.Laws.Cards.{examined_loadable}
 use Rattle.loading.proofs.Laws.Loading.{AllLoaded, LoadLaw, all_loaded, was_full, load_law}
 use Rattle.pairs.specs.declared.pair.Pair.{Pair}
@@ -145,16 +144,15 @@ module _ {w : Work} (proof : List ℕ) (proofs : Bytes proof) (list : List ℕ) 
 
   -- The room is full.
   pub proof_full : (letters : List ℕ) (x y : ℕ) {refusal : Refusal} → answer ≡ Err refusal
-      → Tells w (check_loaded (space_of w) letters (listed_pairs list) w.budget x y (load (space_of w) (store_of w) (records proof))) (Err (Refused refusal)) w₁
+      → Tells w (check_loaded (space_of w) letters (listed_pairs list) w.budget x y (load (space_of w) (store_of w) (records proof))) (Err (Refused NoFreePlace)) w₁
   proof_full letters x y {refusal} e = go law k
     where
       go : {l : Loading} → LoadLaw (space_of w) (records proof) (store_of w) [] (records proof) l → Loads w l answer w₁
-          → Tells w (check_loaded (space_of w) letters (listed_pairs list) w.budget x y l) (Err (Refused refusal)) w₁
+          → Tells w (check_loaded (space_of w) letters (listed_pairs list) w.budget x y l) (Err (Refused NoFreePlace)) w₁
       go (all_loaded h) k = let f = sym e ∙ k.answers in let z : ◌≡◌ {A = ℕ} 0 1 = cc in absurd (omega arith)
       go (was_full {store' = s} f) k =
-          let r : refusal ≡ NoFreePlace = loading_full_by (no_room s) (sym e ∙ k.answers) in
           let none : w.budget - w₁.budget ≡ 0 = omega (arith, k.unspent) in
-          record { is = rw (r, none, holds_store k.holds) refl; leaves = held_leaves k.holds f.kept k.unspent }
+          record { is = rw (none, holds_store k.holds) refl; leaves = held_leaves k.holds f.kept k.unspent }
 
   -- All its records are loaded.
   pub proof_loaded : {map : List ℕ} → Mapped (load (space_of w) (store_of w) (records proof)) map → {told : Unit {0}} → answer ≡ Ok told
