@@ -50,22 +50,31 @@ fn answer<W: Write>(output: &mut W, line: &[u8]) -> io::Result<bool> {
     }
 }
 
-// The word that a line begins with, and the keys behind it.
+// The word that a line begins with, and its keys, from the space behind the word on.
 fn word_of(line: &[u8]) -> Option<(Word, &[u8])> {
-    if let Some(keys) = line.strip_prefix(b"match") {
-        return Some((Word::Match, keys));
+    let (word, keys) = first_word(line)?;
+    if !keys.starts_with(b" ") {
+        return None;
     }
-    if let Some(keys) = line.strip_prefix(b"compare") {
-        return Some((Word::Compare, keys));
-    }
-    if let Some(keys) = line.strip_prefix(b"check") {
-        return Some((Word::Check, keys));
-    }
-    let keys = line.strip_prefix(b"job")?;
-    Some((Word::Job, keys))
+    Some((word, keys))
 }
 
-// Writes the answer to a line that begins with a word. It stays a call of its own, so that no other line pays for its room.
+// The word that the line's first bytes spell, and what stands behind them.
+fn first_word(line: &[u8]) -> Option<(Word, &[u8])> {
+    if let Some(rest) = line.strip_prefix(b"match") {
+        return Some((Word::Match, rest));
+    }
+    if let Some(rest) = line.strip_prefix(b"compare") {
+        return Some((Word::Compare, rest));
+    }
+    if let Some(rest) = line.strip_prefix(b"check") {
+        return Some((Word::Check, rest));
+    }
+    let rest = line.strip_prefix(b"job")?;
+    Some((Word::Job, rest))
+}
+
+// Writes the answer to a line that begins with a word and a space. It stays a call of its own, so that no other line pays for its room.
 #[inline(never)]
 fn answer_word<W: Write>(output: &mut W, word: Word, keys: &[u8]) -> io::Result<bool> {
     // the array stays: no heap
