@@ -78,7 +78,9 @@ impl<'l, 'r> Keys<'l, 'r> {
         ensures goes_on { self.old.line.at ≤ self.new.line.at }
     {
         self.key(key)?;
-        self.line.byte()
+        // as a value, and not handed on: an edit can turn it
+        let byte = self.line.byte()?;
+        Some(byte)
     }
 
     // A key and a room's size.

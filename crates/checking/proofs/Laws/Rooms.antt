@@ -312,7 +312,7 @@ module _ (letters : List ℕ) (pairs : List Pair) where
   pub pairs_first : (w : Work) → ByPairs w w 0
   pairs_first w = at_first pairs_run (length pairs) w
 
-  -- That pairs were passed is said by the room, the places and the budget, and so of whatever has the same.
+  -- That pairs were passed is said by the bytes of the room, the places and the budget, and so of any `Work` that has the same.
   pub pairs_alike : {w₀ w v : Work} {at : ℕ} → v.room.now ≡ w.room.now → v.places ≡ w.places → v.budget ≡ w.budget → ByPairs w₀ w at → ByPairs w₀ v at
   pairs_alike e f g u =
       record { leaves = record { room_is = rw (e, f) u.leaves.room_is; kept = rw (e, f) u.leaves.kept; spent = rw g u.leaves.spent }; rest = rw (e, f, g) u.rest }
