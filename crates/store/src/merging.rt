@@ -1,7 +1,7 @@
 // Making a set: two of its kind, merged by rising place, each member once, and built from the last member backward.
 // On the room and its places, and not on `Work`, as `make` asks it: the store need not be good after any record. The kind is its number, as in the
 // definitions, and as it stands in the records that it is compared with.
-ghost use Rattle.std.specs.Prelude.{◌≡◌, cond, ◌<◌, eqb};
+ghost use Rattle.std.specs.Prelude.{◌≡◌, cond, ◌<◌, eqb, min};
 ghost use Rattle.store.specs.Room.{store_in, places_of};
 ghost use Rattle.store.specs.Making.{placed, put_before, set_of_both};
 ghost use Rattle.store.specs.Told.{side, Makes};
@@ -42,7 +42,7 @@ pub fn set_of_both(
     }
     let one = read_side(room, *places, kind, left);
     let other = read_side(room, *places, kind, right);
-    let member = one.first.min(other.first);
+    let member = lower(one.first, other.first);
     let rest = set_of_both(
         room,
         places,
@@ -100,4 +100,11 @@ fn put_before(
     }
     let r = new_record(room, *places, kind, 0, member, rest);
     intern(room, places, r)
+}
+
+// The lower of two places.
+fn lower(one: usize, other: usize) -> usize
+    ensures { result ≡ min one other }
+{
+    one.min(other)
 }

@@ -23,7 +23,7 @@ set_of_both-requires t c =
     c.if-right-eq-NOTHING_PLACE.false
     c.read_side-one.ensures
     c.read_side-other.ensures
-    c.min-member.ensures
+    c.lower-member.ensures
     c.past.ensures
     c.past-2.ensures in
     let i = insides r.set_kind r.good_store c.args.left c.args.right r.sets_stand
@@ -31,7 +31,7 @@ set_of_both-requires t c =
     c.if-right-eq-NOTHING_PLACE.false
     c.read_side-one.ensures
     c.read_side-other.ensures
-    c.min-member.ensures
+    c.lower-member.ensures
     c.past.ensures
     c.past-2.ensures in
     (omega (arith, less, c.decreases), (r.good_store, (i, r.set_kind)))
@@ -44,7 +44,7 @@ put_before-requires t c =
     c.if-right-eq-NOTHING_PLACE.false
     c.read_side-one.ensures
     c.read_side-other.ensures
-    c.min-member.ensures
+    c.lower-member.ensures
     c.past.ensures
     c.past-2.ensures
     c.set_of_both.ensures
@@ -59,7 +59,7 @@ returns t c =
     c.if-right-eq-NOTHING_PLACE.false
     c.read_side-one.ensures
     c.read_side-other.ensures
-    c.min-member.ensures
+    c.lower-member.ensures
     c.past.ensures
     c.past-2.ensures
     c.set_of_both.ensures
@@ -76,7 +76,7 @@ returns-in_err-rest t c =
     c.if-right-eq-NOTHING_PLACE.false
     c.read_side-one.ensures
     c.read_side-other.ensures
-    c.min-member.ensures
+    c.lower-member.ensures
     c.past.ensures
     c.past-2.ensures
     c.set_of_both.ensures
